@@ -12,7 +12,7 @@ module _ {Q T S : Type 0} (step : Q → S → T → S → Type 0) where
   leads-start qs s rs is more u p = subst (λ (l : List T). Performs step qs s (l ++ more) u) (sym is) p
 
   pub leads-next : (qs : List Q) (s : S) (rs : List T) (left : List Q) (t : S) (q : Q) (rest : List Q) (r : T) (t′ : S) (rs′ : List T)
-    → Leads qs s rs left t → left ≡ q ∷ rest → step q t r t′ → rs′ ≡ rs ++ r ∷ [] → Leads qs s rs′ rest t′
+      → Leads qs s rs left t → left ≡ q ∷ rest → step q t r t′ → rs′ ≡ rs ++ r ∷ [] → Leads qs s rs′ rest t′
   leads-next qs s rs left t q rest r t′ rs′ so is one grown more u p =
       subst (λ (all : List T). Performs step qs s all u) (sym (ap (λ l. l ++ more) grown ∙ append-assoc rs (r ∷ []) more))
       (so (r ∷ more) u (subst (λ (l : List Q). Performs step l t (r ∷ more) u) (sym is) (next one p)))

@@ -27,7 +27,12 @@ fn perform_one<F: Field>(draft: &Draft, generators: &mut [F], request: &Request)
 }
 
 // Performs the requests in order, and answers each. Where memory for the answers is wanting, nothing is done.
-pub fn perform<F: Field>(heap: Global, draft: Draft, generators: &mut [F], requests: &[Request]) -> Result<Performed, Refused<Draft>>
+pub fn perform<F: Field>(
+    heap: Global,
+    draft: Draft,
+    generators: &mut [F],
+    requests: &[Request],
+) -> Result<Performed, Refused<Draft>>
     ensures draft { λ r. ⌜ Cases r (λ p. p .draft ≡ draft) (λ e. e .value ≡ draft) ⌝ }
     ensures run { λ r. ⌜ Cases r (λ p. Performs (Step (λ x. number (member x)) order (draft .n)) (now (requests .entry)) (now (generators .entry)) (vec-items (p .answers)) (now (generators .exit))) (λ _. now (generators .exit) ≡ now (generators .entry)) ⌝ }
 {

@@ -30,7 +30,13 @@ impl Draft {
     }
 
     // Writes the element of a code as a power of generator i.
-    pub fn put<F: Field>(&self, generators: &mut [F], i: usize, power: usize, code: u32) -> Result<(), DesignFault>
+    pub fn put<F: Field>(
+        &self,
+        generators: &mut [F],
+        i: usize,
+        power: usize,
+        code: u32,
+    ) -> Result<(), DesignFault>
         ensures { λ r. ⌜ Puts (λ x. number (member x)) order (now (self .entry) .n) i power code (now (generators .entry)) r (now (generators .exit)) ⌝ }
     {
         if generators.len() != GENERATORS {

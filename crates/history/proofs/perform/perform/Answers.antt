@@ -8,14 +8,17 @@ pub loop-request-holds : need.loop-request-holds
 loop-request-holds g c = let m = c .in-Ok .ensures tt .made in (m .1 .0, m .1 .1, leads-start _ _ _ _ (m .0))
 
 pub loop-request-again : need.loop-request-again
-loop-request-again g c =
-    (search needs, search needs, leads-next _ _ _ _ _ _ _ _ _ _ _ (c .loop-request .inv .2)
-    (drop-more (c .args .requests .now) (c .loop-request .request-index) _ (c .loop-request-test .taken))
-    (c .perform-one .ensures) (c .push-reserved .ensures .items))
+loop-request-again g c = (
+  search needs,
+  search needs,
+  leads-next _ _ _ _ _ _ _ _ _ _ _ (c .loop-request .inv .2)
+      (drop-more (c .args .requests .now) (c .loop-request .request-index) _ (c .loop-request-test .taken))
+      (c .perform-one .ensures) (c .push-reserved .ensures .items),
+)
 
 pub returns : need.returns
 returns g c =
     record {
       draft = refl;
-      run = leads-end _ _ _ _ _ _ (c .loop-request .inv .2) (drop-all (c .loop-request .request-index) (c .args .requests .now) (c .loop-request-test .left))
+      run = leads-end _ _ _ _ _ _ (c .loop-request .inv .2) (drop-all (c .loop-request .request-index) (c .args .requests .now) (c .loop-request-test .left));
     }
