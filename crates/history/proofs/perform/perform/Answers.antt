@@ -1,11 +1,12 @@
 use mathlib.Core.Path.{refl}
 use borrow.Author.Needs.{needs}
 use Rattle.std.proofs.shelf.Lists.{drop-more, drop-all}
+use Rattle.std.specs.Of.Vec.{vec-items}
 use Rattle.history.proofs.Runs.{leads-start, leads-next, leads-end}
 use Rattle.history.proofs.perform.perform.Needs as need
 
 pub loop-request-holds : need.loop-request-holds
-loop-request-holds g c = let m = c .in-Ok .ensures tt .made in (m .1 .0, m .1 .1, leads-start _ _ _ _ (m .0))
+loop-request-holds g c = let m = c .in-Ok .ensures tt .made in (m .1 .0, m .1 .1, leads-start _ _ _ (vec-items (c .in-Ok .answers)) (m .0))
 
 pub loop-request-again : need.loop-request-again
 loop-request-again g c = (
