@@ -63,7 +63,7 @@ pub impl From<FieldFault> for DesignFault as DesignFromField {
     ghost converts = { λ f r. r ≡ Field f };
 
     fn from(fault: FieldFault) -> DesignFault {
-        DesignFault::Field(fault)
+        Self::Field(fault)
     }
 }
 

@@ -6,7 +6,7 @@ use Rattle.history.proofs.Runs.{leads-start, leads-next, leads-end}
 use Rattle.history.proofs.perform.perform.Needs as need
 
 pub loop-request-holds : need.loop-request-holds
-loop-request-holds g c = let m = c .in-Ok .ensures tt .made in (m .1 .0, m .1 .1, leads-start _ _ _ (vec-items (c .in-Ok .answers)) (m .0))
+loop-request-holds g c = let m = c .in-Ok .ensures tt .made in (m .1 .0, search needs, leads-start _ _ _ (vec-items (c .in-Ok .answers)) (m .0))
 
 pub loop-request-again : need.loop-request-again
 loop-request-again g c = (
