@@ -6,3 +6,4 @@ pub mod Bounds
 pub mod Degrees
 pub mod Division
 pub mod Gcd
+pub mod Exchange

@@ -1,3 +1,4 @@
 pub mod Rings
 pub mod Series
 pub mod Divisors
+pub mod Independence
