@@ -7,3 +7,4 @@ pub mod Degrees
 pub mod Division
 pub mod Gcd
 pub mod Exchange
+pub mod DividedRow

@@ -45,3 +45,25 @@ pub record GcdOfRow {M : Type 0} (o : RingOps M) (n : ℕ) (a : ℕ → ℕ → 
   pub divisor : ℕ → M
   pub gcd : MonicGcd o n a divisor
   pub combination : Combination o n a divisor
+
+-- r is the row a divided by g
+pub record DividedRow {M : Type 0} (o : RingOps M) (n : ℕ) (a : ℕ → ℕ → M) (g : ℕ → M) (r : ℕ → ℕ → M) : Type 0 where
+  pub polynomials : (i : ℕ) → i < n → Polynomial o (r i)
+  pub is : (i : ℕ) → i < n → series o .product g (r i) ≡ a i
+
+-- each of the n polynomials of h is below s^N
+abbrev pub Bounded : {M : Type 0} → RingOps M → ℕ → ℕ → (ℕ → ℕ → M) → Type 0
+Bounded o n N h = (i : ℕ) → i < n → Below o N (h i)
+
+-- d is the highest degree of the n polynomials of h
+pub record VectorDegree {M : Type 0} (o : RingOps M) (n : ℕ) (h : ℕ → ℕ → M) (d : ℕ) : Type 0 where
+  pub bounded : Bounded o n (suc d) h
+  pub component : ℕ
+  pub within : component < n
+  pub top : h component d ≡ o .zero → ⊥
+
+-- f is the row times a vector below s^N
+pub record BoundedCombination {M : Type 0} (o : RingOps M) (n N : ℕ) (a : ℕ → ℕ → M) (f : ℕ → M) : Type 0 where
+  pub vector : ℕ → ℕ → M
+  pub bounded : Bounded o n N vector
+  pub is : dot (series o) n a vector ≡ f
