@@ -29,10 +29,10 @@ module _ {M : Type 0} (o : RingOps M) (F : IsField o) where
 
   open RingOps o using (zero as O, one as I)
   open RingOps (series o) using (zero as 𝟘, one as 𝟙, sum as _+_, negative as -_, product as _·_)
+
   infixl 60 _+_
   infixl 70 _·_
   infix 80 -_
-
   pub divided-row-exists : (n : ℕ) (a : ℕ → ℕ → M) (g : ℕ → M) → MonicGcd o n a g → (r : ℕ → ℕ → M) × DividedRow o n a g r
   divided-row-exists n a g p =
       let r = E.choose {A = ℕ → M} (λ i q. Polynomial o q × (g · q ≡ a i)) 𝟘 n (λ i h. (p .divides i h .quotient, (p .divides i h .polynomial, p .divides i h .is))) in
@@ -63,14 +63,15 @@ module _ {M : Type 0} (o : RingOps M) (F : IsField o) where
         vector = c .vector;
         polynomials = c .polynomials;
         is = D.product-cancel o F g (dot (series o) n r (c .vector)) 𝟙 (gcd-polynomial n a g p) (G.combination-polynomial o F n r (c .vector) (d .polynomials) (c .polynomials)) (B.polynomial-constant o L I) (gcd-nonzero n a g p)
-          (sym (dot-divided n a g r (c .vector) d) ∙ c .is ∙ sym (SL .product-one g));
+            (sym (dot-divided n a g r (c .vector) d) ∙ c .is ∙ sym (SL .product-one g));
       }
 
   -- the same vectors are sent to zero
   pub same-syzygies : (n : ℕ) (a : ℕ → ℕ → M) (g : ℕ → M) (r : ℕ → ℕ → M) → MonicGcd o n a g → DividedRow o n a g r → (h : ℕ → ℕ → M) → ((i : ℕ) → i < n → Polynomial o (h i)) → (dot (series o) n a h ≡ 𝟘) ↔ (dot (series o) n r h ≡ 𝟘)
-  same-syzygies n a g r p d h q =
-      (λ e. D.zero-of-product o F g (dot (series o) n r h) (gcd-polynomial n a g p) (G.combination-polynomial o F n r h (d .polynomials) q) (gcd-nonzero n a g p) (sym (dot-divided n a g r h d) ∙ e),
-       λ e. dot-divided n a g r h d ∙ ap (λ t. g · t) e ∙ Sums.product-zero (series o) SL g)
+  same-syzygies n a g r p d h q = (
+    λ e. D.zero-of-product o F g (dot (series o) n r h) (gcd-polynomial n a g p) (G.combination-polynomial o F n r h (d .polynomials) q) (gcd-nonzero n a g p) (sym (dot-divided n a g r h d) ∙ e),
+    λ e. dot-divided n a g r h d ∙ ap (λ t. g · t) e ∙ Sums.product-zero (series o) SL g,
+  )
 
   -- a vector of polynomials is zero or has a degree
   pub vector-zero-or-degree : (n N : ℕ) (h : ℕ → ℕ → M) → Bounded o n N h → AllZero o n h ⊎ ((d : ℕ) × (d < N) × VectorDegree o n h d)
@@ -104,11 +105,11 @@ module _ {M : Type 0} (o : RingOps M) (F : IsField o) where
   reduced-is n c r b f q rem h e =
       E.total-skip (series o) SL n c (λ i. r i · E.slot c top rem i) h
       ∙ ap₂ _+_
-          (ap (λ t. r c · t) (E.slot-at c top rem))
-          (Sums.total-ext (series o) SL n (λ j. r (E.skip c j) · E.slot c top rem (E.skip c j)) (λ j. f · (r (E.skip c j) · b (E.skip c j)) + r c · (- (q j · r (E.skip c j))))
-            (λ j l. ap (λ t. r (E.skip c j) · t) (E.slot-skip c top rem j) ∙ term (r (E.skip c j)) (rem j) (b (E.skip c j)) (q j) (e j l))
-          ∙ Sums.total-sum (series o) SL n (λ j. f · (r (E.skip c j) · b (E.skip c j))) (λ j. r c · (- (q j · r (E.skip c j))))
-          ∙ ap₂ _+_ (Sums.total-scale (series o) SL n f (λ j. r (E.skip c j) · b (E.skip c j))) (Sums.total-scale (series o) SL n (r c) (λ j. - (q j · r (E.skip c j))) ∙ ap (λ t. r c · t) (Sums.total-negative (series o) SL n (λ j. q j · r (E.skip c j)))))
+      (ap (λ t. r c · t) (E.slot-at c top rem))
+      (Sums.total-ext (series o) SL n (λ j. r (E.skip c j) · E.slot c top rem (E.skip c j)) (λ j. f · (r (E.skip c j) · b (E.skip c j)) + r c · (- (q j · r (E.skip c j))))
+      (λ j l. ap (λ t. r (E.skip c j) · t) (E.slot-skip c top rem j) ∙ term (r (E.skip c j)) (rem j) (b (E.skip c j)) (q j) (e j l))
+      ∙ Sums.total-sum (series o) SL n (λ j. f · (r (E.skip c j) · b (E.skip c j))) (λ j. r c · (- (q j · r (E.skip c j))))
+      ∙ ap₂ _+_ (Sums.total-scale (series o) SL n f (λ j. r (E.skip c j) · b (E.skip c j))) (Sums.total-scale (series o) SL n (r c) (λ j. - (q j · r (E.skip c j))) ∙ ap (λ t. r c · t) (Sums.total-negative (series o) SL n (λ j. q j · r (E.skip c j)))))
       ∙ solve (series o) SL (r c ∷ f ∷ b c ∷ total (series o) n (λ j. q j · r (E.skip c j)) ∷ total (series o) n (λ j. r (E.skip c j) · b (E.skip c j)) ∷ []) (var 0 ⊠ (var 1 ⊠ var 2 ⊞ var 3) ⊞ (var 1 ⊠ var 4 ⊞ var 0 ⊠ neg (var 3))) (var 1 ⊠ (var 0 ⊠ var 2 ⊞ var 4)) refl
       ∙ ap (λ t. f · t) (sym (E.total-skip (series o) SL n c (λ i. r i · b i) h))
     where
@@ -125,10 +126,10 @@ module _ {M : Type 0} (o : RingOps M) (F : IsField o) where
   corner-below : (n d c : ℕ) (r rem : ℕ → ℕ → M) (f x : ℕ → M) → c < suc n → Bounded o (suc n) (suc d) r → Degree o (r c) d → ((j : ℕ) → j < n → Below o d (rem j)) → Polynomial o x → Below o (suc (d plus d)) f → dot (series o) (suc n) r (E.slot c x rem) ≡ f → Below o (suc d) x
   corner-below n d c r rem f x h b dc s p bf e =
       D.below-factor o F (r c) x d (suc d) (suc (d plus d)) dc p (omega arith)
-        (subst (Below o (suc (d plus d))) (sym product-is)
-          (B.below-sum o L (suc (d plus d)) f (- others) bf
-            (B.below-negative o L (suc (d plus d)) others
-              (B.below-total o L n (suc (d plus d)) (λ j. r (E.skip c j) · rem j) (λ j l. B.below-product o L (suc d) d (suc (d plus d)) (r (E.skip c j)) (rem j) (omega arith) (b (E.skip c j) (E.skip-lt c n j l)) (s j l))))))
+      (subst (Below o (suc (d plus d))) (sym product-is)
+      (B.below-sum o L (suc (d plus d)) f (- others) bf
+      (B.below-negative o L (suc (d plus d)) others
+      (B.below-total o L n (suc (d plus d)) (λ j. r (E.skip c j) · rem j) (λ j l. B.below-product o L (suc d) d (suc (d plus d)) (r (E.skip c j)) (rem j) (omega arith) (b (E.skip c j) (E.skip-lt c n j l)) (s j l))))))
     where
       others : ℕ → M
       others = total (series o) n (λ j. r (E.skip c j) · rem j)
@@ -137,11 +138,11 @@ module _ {M : Type 0} (o : RingOps M) (F : IsField o) where
       product-is =
           solve (series o) SL (r c · x ∷ others ∷ []) (var 0) (var 0 ⊞ var 1 ⊞ neg (var 1)) refl
           ∙ ap (λ t. t + (- others))
-              (ap₂ _+_
-                (ap (λ t. r c · t) (sym (E.slot-at c x rem)))
-                (Sums.total-ext (series o) SL n (λ j. r (E.skip c j) · rem j) (λ j. r (E.skip c j) · E.slot c x rem (E.skip c j)) (λ j l. ap (λ t. r (E.skip c j) · t) (sym (E.slot-skip c x rem j))))
-              ∙ sym (E.total-skip (series o) SL n c (λ i. r i · E.slot c x rem i) h)
-              ∙ e)
+          (ap₂ _+_
+          (ap (λ t. r c · t) (sym (E.slot-at c x rem)))
+          (Sums.total-ext (series o) SL n (λ j. r (E.skip c j) · rem j) (λ j. r (E.skip c j) · E.slot c x rem (E.skip c j)) (λ j l. ap (λ t. r (E.skip c j) · t) (sym (E.slot-skip c x rem j))))
+          ∙ sym (E.total-skip (series o) SL n c (λ i. r i · E.slot c x rem i) h)
+          ∙ e)
 
   -- a polynomial of degree at most 2d is the row times a vector of degree at most d
   pub small-combination : (n d : ℕ) (r : ℕ → ℕ → M) → ((i : ℕ) → i < n → Polynomial o (r i)) → Combination o n r 𝟙 → VectorDegree o n r d → (f : ℕ → M) → Below o (suc (d plus d)) f → BoundedCombination o n (suc d) r f
@@ -150,8 +151,8 @@ module _ {M : Type 0} (o : RingOps M) (F : IsField o) where
       record {
         vector = E.slot c x rem;
         bounded = E.slot-all (Below o (suc d)) n c x rem (v .within)
-          (corner-below n d c r rem f x (v .within) (v .bounded) (component-degree (suc n) r d v) (λ j l. parts .1 j l .small) x-polynomial bf product)
-          (λ j l. B.below-mono o L d (suc d) (rem j) (omega arith) (parts .1 j l .small));
+            (corner-below n d c r rem f x (v .within) (v .bounded) (component-degree (suc n) r d v) (λ j l. parts .1 j l .small) x-polynomial bf product)
+            (λ j l. B.below-mono o L d (suc d) (rem j) (omega arith) (parts .1 j l .small));
         is = product;
       }
     where
@@ -160,7 +161,7 @@ module _ {M : Type 0} (o : RingOps M) (F : IsField o) where
 
       parts : (z : ℕ → (ℕ → M) × (ℕ → M)) × ((j : ℕ) → j < n → record { is : f · b .vector (E.skip c j) ≡ r c · z j .0 + z j .1; small : Below o d (z j .1); polynomial : Polynomial o (z j .0) })
       parts = E.choose {A = (ℕ → M) × (ℕ → M)} (λ j z. record { is : f · b .vector (E.skip c j) ≡ r c · z .0 + z .1; small : Below o d (z .1); polynomial : Polynomial o (z .0) }) (𝟘, 𝟘) n
-        (λ j l.
+          (λ j l.
           let product = B.polynomial-product o L f (b .vector (E.skip c j)) (suc (d plus d), bf) (b .polynomials (E.skip c j) (E.skip-lt c n j l)) in
           let w = V.divide o F (product .0) (f · b .vector (E.skip c j)) (r c) d (component-degree (suc n) r d v) (product .1) in
           ((w .quotient, w .remainder), record { is = w .is; small = w .small; polynomial = w .polynomial }))
@@ -177,8 +178,8 @@ module _ {M : Type 0} (o : RingOps M) (F : IsField o) where
       x-polynomial : Polynomial o x
       x-polynomial =
           B.polynomial-sum o L (f · b .vector c) (total (series o) n (λ j. q j · r (E.skip c j)))
-            (B.polynomial-product o L f (b .vector c) (suc (d plus d), bf) (b .polynomials c (v .within)))
-            (B.polynomial-total o L n (λ j. q j · r (E.skip c j)) (λ j l. B.polynomial-product o L (q j) (r (E.skip c j)) (parts .1 j l .polynomial) (p (E.skip c j) (E.skip-lt c n j l))))
+          (B.polynomial-product o L f (b .vector c) (suc (d plus d), bf) (b .polynomials c (v .within)))
+          (B.polynomial-total o L n (λ j. q j · r (E.skip c j)) (λ j l. B.polynomial-product o L (q j) (r (E.skip c j)) (parts .1 j l .polynomial) (p (E.skip c j) (E.skip-lt c n j l))))
 
       product : dot (series o) (suc n) r (E.slot c x rem) ≡ f
       product = reduced-is n c r (b .vector) f q rem (v .within) (λ j l. parts .1 j l .is) ∙ ap (λ t. f · t) (b .is) ∙ SL .product-one f

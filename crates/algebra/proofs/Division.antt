@@ -1,6 +1,6 @@
--- Division of polynomials over a field. Main results: divide (division with remainder), divides-trans, divides-dot (a divisor of a row
+-- Division of polynomials over a field. Main results: divide (division with remainder), division-unique, divides-trans, divides-dot (a divisor of a row
 -- divides its combinations).
-use mathlib.Core.Path.{_≡_, refl, sym, ap, ap₂, _∙_, fun-ext}
+use mathlib.Core.Path.{_≡_, refl, sym, ap, ap₂, _∙_, fun-ext, subst}
 use mathlib.Core.Logic.{_⊎_, inl, inr}
 use mathlib.Core.List.{[], _∷_}
 use Prim.Native.Nat.{ℕ, zero, suc, _≤_, _<_, _-_, zero-le, suc-le-suc, _+_ as _plus_}
@@ -15,6 +15,7 @@ use Rattle.algebra.proofs.Solver.{solve, var, 𝟎, 𝟏, _⊞_, _⊠_, neg}
 use Rattle.algebra.proofs.Series as S
 use Rattle.algebra.proofs.Fields as Fields
 use Rattle.algebra.proofs.Bounds as B
+use Rattle.algebra.proofs.Degrees as D
 
 module _ {M : Type 0} (o : RingOps M) (F : IsField o) where
   abbrev L : RingLaws o
@@ -101,3 +102,32 @@ module _ {M : Type 0} (o : RingOps M) (F : IsField o) where
       divides-sum f (a 0 · h 0) (dot (series o) n (λ i. a (suc i)) (λ i. h (suc i)))
       (divides-product f (a 0) (h 0) (d 0 (suc-le-suc zero-le)) (p 0 (suc-le-suc zero-le)))
       (divides-dot n f (λ i. a (suc i)) (λ i. h (suc i)) (λ i l. d (suc i) (suc-le-suc l)) (λ i l. p (suc i) (suc-le-suc l)))
+
+  -- quotient and remainder are the only ones
+  pub division-unique : (f b : ℕ → M) (e : ℕ) → Degree o b e → (x y : Division o e f b) → (x .quotient ≡ y .quotient) × (x .remainder ≡ y .remainder)
+  division-unique f b e d x y = (quotients, remainders)
+    where
+      difference : ℕ → M
+      difference = x .quotient + (- (y .quotient))
+
+      product-is : b · difference ≡ y .remainder + (- (x .remainder))
+      product-is =
+          solve (series o) SL (b ∷ x .quotient ∷ x .remainder ∷ y .quotient ∷ y .remainder ∷ []) (var 0 ⊠ (var 1 ⊞ neg (var 3))) (var 0 ⊠ var 1 ⊞ var 2 ⊞ neg (var 0 ⊠ var 3 ⊞ var 4) ⊞ (var 4 ⊞ neg (var 2))) refl
+          ∙ ap (λ t. t + (y .remainder + (- (x .remainder)))) (ap₂ (λ s t. s + (- t)) (sym (x .is)) (sym (y .is)) ∙ SL .sum-negative f)
+          ∙ Sums.zero-sum (series o) SL (y .remainder + (- (x .remainder)))
+
+      difference-zero : difference ≡ 𝟘
+      difference-zero =
+          B.zero-of-below o L difference
+          (D.below-factor o F b difference e 0 e d
+          (B.polynomial-sum o L (x .quotient) (- (y .quotient)) (x .polynomial) (B.polynomial-negative o L (y .quotient) (y .polynomial)))
+          (omega arith)
+          (subst (Below o e) (sym product-is) (B.below-sum o L e (y .remainder) (- (x .remainder)) (y .small) (B.below-negative o L e (x .remainder) (x .small)))))
+
+      quotients : x .quotient ≡ y .quotient
+      quotients = Sums.equal-of-difference (series o) SL (x .quotient) (y .quotient) difference-zero
+
+      remainders : x .remainder ≡ y .remainder
+      remainders =
+          Sums.sum-cancel (series o) SL (b · x .quotient) (x .remainder) (y .remainder)
+          (sym (x .is) ∙ y .is ∙ ap (λ t. b · t + y .remainder) (sym quotients))

@@ -8,3 +8,4 @@ pub mod Division
 pub mod Gcd
 pub mod Exchange
 pub mod DividedRow
+pub mod Theorems

@@ -2,3 +2,4 @@ pub mod Rings
 pub mod Series
 pub mod Divisors
 pub mod Independence
+pub mod Theorems
