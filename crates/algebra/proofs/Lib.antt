@@ -8,4 +8,5 @@ pub mod Division
 pub mod Gcd
 pub mod Exchange
 pub mod DividedRow
+pub mod Spans
 pub mod Theorems
