@@ -9,4 +9,8 @@ pub mod Gcd
 pub mod Exchange
 pub mod DividedRow
 pub mod Spans
+pub mod Places
+pub mod Pivots
+pub mod Naturals
+pub mod Syzygies
 pub mod Theorems

@@ -3,3 +3,4 @@ pub mod Series
 pub mod Divisors
 pub mod Independence
 pub mod Theorems
+pub mod Places
