@@ -50,6 +50,19 @@ slot-skip zero v y j = refl
 slot-skip (suc p) v y zero = refl
 slot-skip (suc p) v y (suc j) = slot-skip p v (λ i. y (suc i)) j
 
+-- x everywhere but at p
+pub slot-off : {R : Type 0} (p : ℕ) (v x : R) (q : ℕ) → (q ≡ p → ⊥) → slot p v (λ j. x) q ≡ x
+slot-off zero v x zero n = absurd (n refl)
+slot-off zero v x (suc q) n = refl
+slot-off (suc p) v x zero n = refl
+slot-off (suc p) v x (suc q) n = slot-off p v x q (λ e. n (ap suc e))
+
+pub slot-both : {R : Type 0} (P : R → Type 0) (p : ℕ) (v x : R) (q : ℕ) → P v → P x → P (slot p v (λ j. x) q)
+slot-both P zero v x zero a b = a
+slot-both P zero v x (suc q) a b = b
+slot-both P (suc p) v x zero a b = b
+slot-both P (suc p) v x (suc q) a b = slot-both P p v x q a b
+
 pub slot-all : {R : Type 0} (P : R → Type 0) (n p : ℕ) (v : R) (y : ℕ → R) → p < suc n → P v → ((j : ℕ) → j < n → P (y j)) → (k : ℕ) → k < suc n → P (slot p v y k)
 slot-all P n zero v y h a b zero l = a
 slot-all P n zero v y h a b (suc k) l = b k (le-of-suc-le-suc l)

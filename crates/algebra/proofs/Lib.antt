@@ -12,5 +12,6 @@ pub mod Spans
 pub mod Places
 pub mod Pivots
 pub mod Naturals
+pub mod Reduction
 pub mod Syzygies
 pub mod Theorems

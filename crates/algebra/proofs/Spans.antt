@@ -72,6 +72,10 @@ module _ {R : Type 0} (o : RingOps R) (L : RingLaws o) where
       (Sums.total-zero o L m (λ j. E.slot p t (λ i. O) (E.skip p j) · u (E.skip p j)) (λ j b. ap (λ z. z · u (E.skip p j)) (E.slot-skip p t (λ i. O) j) ∙ Sums.zero-product o L (u (E.skip p j))))
       ∙ L .sum-zero (t · u p)
 
+  -- the product with a vector that has one component
+  pub dot-slot : (n p : ℕ) (a : ℕ → R) (t : R) → p < n → dot o n a (E.slot p t (λ i. O)) ≡ a p · t
+  dot-slot n p a t h = Sums.total-ext o L n (λ i. a i · E.slot p t (λ j. O) i) (λ i. E.slot p t (λ j. O) i · a i) (λ i l. L .product-comm (a i) (E.slot p t (λ j. O) i)) ∙ total-slot n p t a h ∙ L .product-comm t (a p)
+
   -- terms from t on are zero
   pub total-truncate : (t m : ℕ) (f : ℕ → R) → t ≤ m → ((j : ℕ) → t ≤ j → j < m → f j ≡ O) → total o m f ≡ total o t f
   total-truncate zero m f h z = Sums.total-zero o L m f (λ j b. z j zero-le b)
