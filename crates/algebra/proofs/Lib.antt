@@ -14,4 +14,6 @@ pub mod Pivots
 pub mod Naturals
 pub mod Reduction
 pub mod Syzygies
+pub mod Classes
+pub mod Counting
 pub mod Theorems
