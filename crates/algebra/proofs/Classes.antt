@@ -49,13 +49,13 @@ module _ {M : Type 0} (o : RingOps M) (F : IsField o) (n : ℕ) (positive : zero
 
   pub power-within : (q : ℕ) → q < n * suc d → q / n < suc d
   power-within q l = elim (decLt (q / n) (suc d)) [
-      yes h ↦ h
+    | yes h ↦ h
     | no h ↦
         let g : suc d ≤ q / n = omega arith in
         let s = mul-le-mul-left n g in
         let e = div-add-mod q n in
         absurd (omega arith)
-    ]
+  ]
 
   nonpivotal-place : (q : ℕ) → NonPivotal o n d r q → NonPivotal o n d r (n * (q / n) plus q % n)
   nonpivotal-place q s = subst (NonPivotal o n d r) (sym (div-add-mod q n)) s
@@ -130,13 +130,13 @@ module _ {M : Type 0} (o : RingOps M) (F : IsField o) (n : ℕ) (positive : zero
 
   pub first-of-basic : (i k : ℕ) → (f : FirstNonPivotal o n d r i) → Basic o n d r (n * k plus i) → k ≡ f .power
   first-of-basic i k f b = elim (decLt k (f .power)) [
-      yes h ↦ absurd (f .earlier k h (b .non-pivotal))
+    | yes h ↦ absurd (f .earlier k h (b .non-pivotal))
     | no h ↦ elim (decLt (f .power) k) [
-          yes l ↦
-            let j = k - suc (f .power) in
-            let split : k ≡ f .power plus suc j = omega arith in
-            let places = ap (λ t. n * t) split ∙ mul-add n (f .power) (suc j) in
-            absurd (b .first (n * f .power plus i) j (f .non-pivotal) (omega arith))
-        | no l ↦ omega arith
-        ]
+      | yes l ↦
+          let j = k - suc (f .power) in
+          let split : k ≡ f .power plus suc j = omega arith in
+          let places = ap (λ t. n * t) split ∙ mul-add n (f .power) (suc j) in
+          absurd (b .first (n * f .power plus i) j (f .non-pivotal) (omega arith))
+      | no l ↦ omega arith
     ]
+  ]

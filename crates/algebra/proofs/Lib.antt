@@ -16,4 +16,5 @@ pub mod Reduction
 pub mod Syzygies
 pub mod Classes
 pub mod Counting
+pub mod BasicPlaces
 pub mod Theorems

@@ -33,10 +33,10 @@ module _ {M : Type 0} (o : RingOps M) (F : IsField o) where
   members = E.domain-of-field o F
 
   open RingOps o using (zero as O, one as I, sum as _+_, negative as -_, product as _·_)
+
   infixl 60 _+_
   infixl 70 _·_
   infix 80 -_
-
   pub total-slot-last : (Q : ℕ) (v : M) (x l : ℕ → M) → total o (suc Q) (λ q. E.slot Q v x q · l q) ≡ total o Q (λ q. x q · l q) + v · l Q
   total-slot-last Q v x l =
       Sums.total-last o L Q (λ q. E.slot Q v x q · l q)
@@ -47,9 +47,9 @@ module _ {M : Type 0} (o : RingOps M) (F : IsField o) where
     extend Q y z v e n s = record {
       factor = E.slot Q v (s .factor);
       off = λ q h p. elim (eq-or-lt-of-le (le-of-suc-le-suc h)) [
-          inl same ↦ ap (E.slot Q v (s .factor)) same ∙ E.slot-at Q v (s .factor) ∙ n (subst (λ t. Spanned o All t w l (l t)) same p)
+        | inl same ↦ ap (E.slot Q v (s .factor)) same ∙ E.slot-at Q v (s .factor) ∙ n (subst (λ t. Spanned o All t w l (l t)) same p)
         | inr less ↦ slot-low Q v (s .factor) q less ∙ s .off q less p
-        ];
+      ];
       is = λ k b. e k b ∙ ap (λ t. t + v · l Q k) (s .is k b) ∙ sym (total-slot-last Q v (s .factor) (λ q. l q k));
     }
 
@@ -72,7 +72,7 @@ module _ {M : Type 0} (o : RingOps M) (F : IsField o) where
         go : Dec (Spanned o All Q w l (l Q)) → ((z : ℕ → M) → Spanned o All Q w l z → PivotalSpan o w l Q z) → PivotalSpan o w l (suc Q) y
         go (yes c) rest =
             extend Q y y O (λ k b. sym (ap (λ t. y k + t) (Sums.zero-product o L (l Q k)) ∙ L .sum-zero (y k))) (λ p. refl)
-              (rest y (Spans.spanned-ext o L All members Q w l (λ k. before k + f Q · l Q k) y (λ k b. sym (split k b)) (Spans.spanned-sum o L All members Q w l before (λ k. f Q · l Q k) before-spanned (Spans.spanned-scale o L All members Q w l (f Q) (l Q) tt c))))
+            (rest y (Spans.spanned-ext o L All members Q w l (λ k. before k + f Q · l Q k) y (λ k b. sym (split k b)) (Spans.spanned-sum o L All members Q w l before (λ k. f Q · l Q k) before-spanned (Spans.spanned-scale o L All members Q w l (f Q) (l Q) tt c))))
         go (no n) rest = extend Q before y (f Q) split (λ p. absurd (n p)) (rest before before-spanned)
 
     -- of lists that sum to zero with x Q not zero, that at Q is a combination of the others
@@ -84,12 +84,12 @@ module _ {M : Type 0} (o : RingOps M) (F : IsField o) where
         at : (c : M) → x Q · c ≡ I → (k : ℕ) → k < w → l Q k ≡ total o Q (λ q. (- (c · x q)) · l q k)
         at c i k b =
             Sums.equal-of-difference o L (l Q k) (total o Q (λ q. (- (c · x q)) · l q k))
-              (ap (λ t. l Q k + (- t)) (Sums.total-ext o L Q (λ q. (- (c · x q)) · l q k) (λ q. (- c) · (x q · l q k)) (λ q h. solve o L (c ∷ x q ∷ l q k ∷ []) (neg (var 0 ⊠ var 1) ⊠ var 2) (neg (var 0) ⊠ (var 1 ⊠ var 2)) refl) ∙ Sums.total-scale o L Q (- c) (λ q. x q · l q k))
-              ∙ solve o L (l Q k ∷ c ∷ total o Q (λ q. x q · l q k) ∷ []) (var 0 ⊞ neg (neg (var 1) ⊠ var 2)) (𝟏 ⊠ var 0 ⊞ var 1 ⊠ var 2) refl
-              ∙ ap (λ t. t · l Q k + c · total o Q (λ q. x q · l q k)) (sym i)
-              ∙ solve o L (l Q k ∷ c ∷ total o Q (λ q. x q · l q k) ∷ x Q ∷ []) (var 3 ⊠ var 1 ⊠ var 0 ⊞ var 1 ⊠ var 2) (var 1 ⊠ (var 2 ⊞ var 3 ⊠ var 0)) refl
-              ∙ ap (λ t. c · t) (sym (Sums.total-last o L Q (λ q. x q · l q k)) ∙ e k b)
-              ∙ Sums.product-zero o L c)
+            (ap (λ t. l Q k + (- t)) (Sums.total-ext o L Q (λ q. (- (c · x q)) · l q k) (λ q. (- c) · (x q · l q k)) (λ q h. solve o L (c ∷ x q ∷ l q k ∷ []) (neg (var 0 ⊠ var 1) ⊠ var 2) (neg (var 0) ⊠ (var 1 ⊠ var 2)) refl) ∙ Sums.total-scale o L Q (- c) (λ q. x q · l q k))
+            ∙ solve o L (l Q k ∷ c ∷ total o Q (λ q. x q · l q k) ∷ []) (var 0 ⊞ neg (neg (var 1) ⊠ var 2)) (𝟏 ⊠ var 0 ⊞ var 1 ⊠ var 2) refl
+            ∙ ap (λ t. t · l Q k + c · total o Q (λ q. x q · l q k)) (sym i)
+            ∙ solve o L (l Q k ∷ c ∷ total o Q (λ q. x q · l q k) ∷ x Q ∷ []) (var 3 ⊠ var 1 ⊠ var 0 ⊞ var 1 ⊠ var 2) (var 1 ⊠ (var 2 ⊞ var 3 ⊠ var 0)) refl
+            ∙ ap (λ t. c · t) (sym (Sums.total-last o L Q (λ q. x q · l q k)) ∙ e k b)
+            ∙ Sums.product-zero o L c)
 
     pub pivotal-unique : (Q : ℕ) (x : ℕ → M) → ((q : ℕ) → q < Q → Spanned o All q w l (l q) → x q ≡ O) → ((k : ℕ) → k < w → total o Q (λ q. x q · l q k) ≡ O) → (q : ℕ) → q < Q → x q ≡ O
     pivotal-unique zero x off e = λ q h. absurd (not-suc-le-zero h)
@@ -98,6 +98,6 @@ module _ {M : Type 0} (o : RingOps M) (F : IsField o) where
         go : Dec (x Q ≡ O) → (((k : ℕ) → k < w → total o Q (λ q. x q · l q k) ≡ O) → (q : ℕ) → q < Q → x q ≡ O) → (q : ℕ) → q < suc Q → x q ≡ O
         go (no n) rest q h = absurd (n (off Q (le-refl (suc Q)) (spanned-of-relation Q x e n)))
         go (yes z) rest q h = elim (eq-or-lt-of-le (le-of-suc-le-suc h)) [
-            inl same ↦ ap x same ∙ z
+          | inl same ↦ ap x same ∙ z
           | inr less ↦ rest (λ k b. sym (L .sum-zero (total o Q (λ q. x q · l q k))) ∙ ap (λ t. total o Q (λ q. x q · l q k) + t) (sym (ap (λ t. t · l Q k) z ∙ Sums.zero-product o L (l Q k))) ∙ sym (Sums.total-last o L Q (λ q. x q · l q k)) ∙ e k b) q less
-          ]
+        ]

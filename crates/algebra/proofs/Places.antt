@@ -60,7 +60,7 @@ module _ {M : Type 0} (n : ℕ) (positive : zero < n) where
           where
             div-mono : (N q : ℕ) → n * N ≤ q → N ≤ q / n
             div-mono N q l = elim (decLe N (q / n)) [
-                yes h ↦ h
+              | yes h ↦ h
               | no h ↦
                   let e = div-add-mod q n in
                   let f = mod-lt q positive in
@@ -68,7 +68,7 @@ module _ {M : Type 0} (n : ℕ) (positive : zero < n) where
                   let s = mul-le-mul-left n g in
                   let t = mul-suc n (q / n) in
                   omega arith
-              ]
+            ]
 
     pub below-place-at : (Q : ℕ) (h : ℕ → ℕ → M) → BelowPlace o n Q h → (q : ℕ) → Q ≤ q → at n h q ≡ o .zero
     below-place-at Q h b q l = b (q % n) (q / n) (mod-lt q positive) (let e = div-add-mod q n in omega arith)
@@ -82,10 +82,10 @@ module _ {M : Type 0} (n : ℕ) (positive : zero < n) where
 
 module _ {M : Type 0} (o : RingOps M) (L : RingLaws o) where
   open RingOps o using (zero as O, one as I, sum as _+_, negative as -_, product as _·_)
+
   infixl 60 _+_
   infixl 70 _·_
   infix 80 -_
-
   -- a product, by the coefficients of a bounded factor
   pub product-as-shifts : (K : ℕ) (f g : ℕ → M) (c : ℕ) → Below o K g → series o .product f g c ≡ total o K (λ k. g k · shift o k f c)
   product-as-shifts zero f g c b = S.coefficient-zero o L f g c (λ i j e. ap (λ t. f i · t) (b j zero-le) ∙ Sums.product-zero o L (f i))

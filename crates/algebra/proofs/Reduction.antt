@@ -37,22 +37,22 @@ module _ {M : Type 0} (o : RingOps M) (F : IsField o) (n : ℕ) (positive : zero
 
   open RingOps o using (zero as O, one as I, product as _⊙_, sum as _⊕_, negative as minus)
   open RingOps (series o) using (zero as 𝟘, one as 𝟙, sum as _+_, negative as -_, product as _·_)
+
   infixl 60 _+_
   infixl 60 _⊕_
   infixl 70 _·_
   infixl 70 _⊙_
   infix 80 -_
-
   -- a place is at least n times a power only if its power is
   pub power-le : (e k i : ℕ) → i < n → n * e ≤ n * k plus i → e ≤ k
   power-le e k i a l = elim (decLe e k) [
-      yes h ↦ h
+    | yes h ↦ h
     | no h ↦
         let g : suc k ≤ e = omega arith in
         let s = mul-le-mul-left n g in
         let t = mul-suc n k in
         absurd (omega arith)
-    ]
+  ]
 
   multiple-at : (e : ℕ) (c : M) (f : ℕ → M) (k : ℕ) → e ≤ k → (shift o e (constant o c) · f) k ≡ c ⊙ f (k - e)
   multiple-at e c f k l = ap (λ (g : ℕ → M). g k) (S.shift-constant-product o L e c f) ∙ S.shift-at o L e k (k - e) (scale o c f) (omega arith)
@@ -63,13 +63,13 @@ module _ {M : Type 0} (o : RingOps M) (F : IsField o) (n : ℕ) (positive : zero
   -- multiplying by s^e adds n e to the leading place
   pub multiple-below : (p e : ℕ) (c : M) (u : ℕ → ℕ → M) → BelowPlace o n p u → BelowPlace o n (p plus n * e) (λ i. shift o e (constant o c) · u i)
   multiple-below p e c u b i k a l = elim (decLe e k) [
-      yes h ↦
+    | yes h ↦
         let j = k - e in
         let split : k ≡ e plus j = omega arith in
         let places = ap (λ t. n * t) split ∙ mul-add n e j in
         multiple-at e c (u i) k h ∙ ap (λ t. c ⊙ t) (b i j a (omega arith)) ∙ Sums.product-zero o L c
     | no h ↦ multiple-low e c (u i) k (omega arith)
-    ]
+  ]
 
   pub multiple-leading : (p e Q : ℕ) (c : M) (u : ℕ → ℕ → M) → Q ≡ p plus n * e → at n u p ≡ I → at n (λ i. shift o e (constant o c) · u i) Q ≡ c
   multiple-leading p e Q c u q one =
@@ -102,8 +102,8 @@ module _ {M : Type 0} (o : RingOps M) (F : IsField o) (n : ℕ) (positive : zero
       go (no x) rest = inr (Q, le-refl (suc Q), x, b)
 
   module _ (m : ℕ) (u : ℕ → ℕ → ℕ → M) (p : ℕ → ℕ) (u-below : (j : ℕ) → j < m → BelowPlace o n (suc (p j)) (u j)) (u-leading : (j : ℕ) → j < m → at n (u j) (p j) ≡ I)
-    (Z : (ℕ → ℕ → M) → Type 0) (Z-step : (j : ℕ) → j < m → (x : ℕ → M) → Polynomial o x → (h : ℕ → ℕ → M) → Z h → Z (λ i. h i + (- (x · u j i)))) (B : ℕ)
-    (cover : (Q : ℕ) → B ≤ Q → (h : ℕ → ℕ → M) → Z h → BelowPlace o n (suc Q) h → (at n h Q ≡ O → ⊥) → (j : ℕ) × (j < m) × (e : ℕ) × (Q ≡ p j plus n * e)) where
+      (Z : (ℕ → ℕ → M) → Type 0) (Z-step : (j : ℕ) → j < m → (x : ℕ → M) → Polynomial o x → (h : ℕ → ℕ → M) → Z h → Z (λ i. h i + (- (x · u j i)))) (B : ℕ)
+      (cover : (Q : ℕ) → B ≤ Q → (h : ℕ → ℕ → M) → Z h → BelowPlace o n (suc Q) h → (at n h Q ≡ O → ⊥) → (j : ℕ) × (j < m) × (e : ℕ) × (Q ≡ p j plus n * e)) where
     stop : (h : ℕ → ℕ → M) → Z h → BelowPlace o n B h → Reduced o n m B u Z h
     stop h z b = record {
       factor = λ j. 𝟘;
@@ -123,10 +123,10 @@ module _ {M : Type 0} (o : RingOps M) (F : IsField o) (n : ℕ) (positive : zero
       below = s .below;
       inside = s .inside;
       is = λ i.
-        solve (series o) SL (h i ∷ (x · u j i) ∷ []) (var 0) (var 0 ⊞ neg (var 1) ⊞ var 1) refl
-        ∙ ap₂ _+_ (s .is i) (sym (Spans.total-slot (series o) SL m j x (λ a. u a i) l))
-        ∙ solve (series o) SL (total (series o) m (λ a. s .factor a · u a i) ∷ s .remainder i ∷ total (series o) m (λ a. E.slot j x (λ b. 𝟘) a · u a i) ∷ []) (var 0 ⊞ var 1 ⊞ var 2) (var 0 ⊞ var 2 ⊞ var 1) refl
-        ∙ ap (λ t. t + s .remainder i) (sym (Sums.total-sum (series o) SL m (λ a. s .factor a · u a i) (λ a. E.slot j x (λ b. 𝟘) a · u a i)) ∙ Sums.total-ext (series o) SL m (λ a. s .factor a · u a i + E.slot j x (λ b. 𝟘) a · u a i) (λ a. (s .factor a + E.slot j x (λ b. 𝟘) a) · u a i) (λ a c. sym (Sums.sum-product (series o) SL (s .factor a) (E.slot j x (λ b. 𝟘) a) (u a i))));
+          solve (series o) SL (h i ∷ (x · u j i) ∷ []) (var 0) (var 0 ⊞ neg (var 1) ⊞ var 1) refl
+          ∙ ap₂ _+_ (s .is i) (sym (Spans.total-slot (series o) SL m j x (λ a. u a i) l))
+          ∙ solve (series o) SL (total (series o) m (λ a. s .factor a · u a i) ∷ s .remainder i ∷ total (series o) m (λ a. E.slot j x (λ b. 𝟘) a · u a i) ∷ []) (var 0 ⊞ var 1 ⊞ var 2) (var 0 ⊞ var 2 ⊞ var 1) refl
+          ∙ ap (λ t. t + s .remainder i) (sym (Sums.total-sum (series o) SL m (λ a. s .factor a · u a i) (λ a. E.slot j x (λ b. 𝟘) a · u a i)) ∙ Sums.total-ext (series o) SL m (λ a. s .factor a · u a i + E.slot j x (λ b. 𝟘) a · u a i) (λ a. (s .factor a + E.slot j x (λ b. 𝟘) a) · u a i) (λ a c. sym (Sums.sum-product (series o) SL (s .factor a) (E.slot j x (λ b. 𝟘) a) (u a i))));
     }
 
     pub reduce : (Q : ℕ) (h : ℕ → ℕ → M) → Z h → BelowPlace o n Q h → Reduced o n m B u Z h
@@ -146,6 +146,6 @@ module _ {M : Type 0} (o : RingOps M) (F : IsField o) (n : ℕ) (positive : zero
             let same : suc Q ≡ suc (p j) plus n * e = omega arith in
             let multiple : BelowPlace o n (suc Q) (λ i. t · u j i) = subst (λ (s : ℕ). BelowPlace o n s (λ i. t · u j i)) (sym same) (multiple-below (suc (p j)) e (at n h Q) (u j) (u-below j (c .1))) in
             step j (c .1) t t-polynomial h
-              (rest (λ i. h i + (- (t · u j i))) (Z-step j (c .1) t t-polynomial h z)
-                (Places.below-place-top n positive o Q (λ i. h i + (- (t · u j i))) (below-place-difference (suc Q) h (λ i. t · u j i) b multiple)
-                  (ap (λ s. at n h Q ⊕ minus s) (multiple-leading (p j) e Q (at n h Q) (u j) place (u-leading j (c .1))) ∙ L .sum-negative (at n h Q))))
+            (rest (λ i. h i + (- (t · u j i))) (Z-step j (c .1) t t-polynomial h z)
+            (Places.below-place-top n positive o Q (λ i. h i + (- (t · u j i))) (below-place-difference (suc Q) h (λ i. t · u j i) b multiple)
+            (ap (λ s. at n h Q ⊕ minus s) (multiple-leading (p j) e Q (at n h Q) (u j) place (u-leading j (c .1))) ∙ L .sum-negative (at n h Q))))

@@ -47,12 +47,12 @@ module _ {M : Type 0} (o : RingOps M) (F : IsField o) (n : ℕ) (positive : zero
 
   open RingOps o using (zero as O, one as I, product as _⊙_, sum as _⊕_, negative as minus)
   open RingOps (series o) using (zero as 𝟘, one as 𝟙, sum as _+_, negative as -_, product as _·_)
+
   infixl 60 _+_
   infixl 60 _⊕_
   infixl 70 _·_
   infixl 70 _⊙_
   infix 80 -_
-
   pub dot-below : (K N P : ℕ) (r h : ℕ → ℕ → M) → K plus N ≤ suc P → Bounded o n K r → Bounded o n N h → Below o P (dot (series o) n r h)
   dot-below K N P r h l a b = B.below-total o L n P (λ i. r i · h i) (λ i e. B.below-product o L K N P (r i) (h i) l (a i e) (b i e))
 
@@ -66,9 +66,9 @@ module _ {M : Type 0} (o : RingOps M) (F : IsField o) (n : ℕ) (positive : zero
 
         coefficients : (k : ℕ) → dot (series o) n r (spread n (Spans.cut o Q x)) k ≡ f k
         coefficients k = elim (decLt k (suc (d plus d))) [
-            yes h ↦ Places.dot-spread o L n Q r x k positive ∙ e k h
+          | yes h ↦ Places.dot-spread o L n Q r x k positive ∙ e k h
           | no h ↦ dot-below (suc d) (suc d) (suc (d plus d)) r (spread n (Spans.cut o Q x)) (omega arith) r-bounded bounded k (omega arith) ∙ sym (b k (omega arith))
-          ]
+        ]
 
     -- the vector with one at q and the negated factors before it
     abbrev pub relation-vector : ℕ → (ℕ → M) → ℕ → ℕ → M
@@ -77,13 +77,13 @@ module _ {M : Type 0} (o : RingOps M) (F : IsField o) (n : ℕ) (positive : zero
     pub relation-syzygy : (q : ℕ) (f : ℕ → M) → q < n * suc d → ((k : ℕ) → k < suc (d plus d) → place-list o n r q k ≡ total o q (λ j. f j ⊙ place-list o n r j k)) → dot (series o) n r (relation-vector q f) ≡ 𝟘
     relation-syzygy q f h e =
         vector-of-relation (suc q) (E.slot q I (λ j. minus (f j))) 𝟘 h (B.below-zero o L (suc (d plus d)))
-          (λ k b.
-            Pivots.total-slot-last o F q I (λ j. minus (f j)) (λ j. place-list o n r j k)
-            ∙ ap₂ _⊕_
-                (Sums.total-ext o L q (λ j. minus (f j) ⊙ place-list o n r j k) (λ j. minus (f j ⊙ place-list o n r j k)) (λ j a. Sums.negative-product o L (f j) (place-list o n r j k)) ∙ Sums.total-negative o L q (λ j. f j ⊙ place-list o n r j k) ∙ ap minus (sym (e k b)))
-                (Sums.one-product o L (place-list o n r q k))
-            ∙ L .sum-comm (minus (place-list o n r q k)) (place-list o n r q k)
-            ∙ L .sum-negative (place-list o n r q k))
+        (λ k b.
+        Pivots.total-slot-last o F q I (λ j. minus (f j)) (λ j. place-list o n r j k)
+        ∙ ap₂ _⊕_
+        (Sums.total-ext o L q (λ j. minus (f j) ⊙ place-list o n r j k) (λ j. minus (f j ⊙ place-list o n r j k)) (λ j a. Sums.negative-product o L (f j) (place-list o n r j k)) ∙ Sums.total-negative o L q (λ j. f j ⊙ place-list o n r j k) ∙ ap minus (sym (e k b)))
+        (Sums.one-product o L (place-list o n r q k))
+        ∙ L .sum-comm (minus (place-list o n r q k)) (place-list o n r q k)
+        ∙ L .sum-negative (place-list o n r q k))
 
     pub syzygy-of-nonpivotal : (q : ℕ) → q < n * suc d → NonPivotal o n d r q → SyzygyAt o n r q
     syzygy-of-nonpivotal q h s = record {
@@ -96,8 +96,8 @@ module _ {M : Type 0} (o : RingOps M) (F : IsField o) (n : ℕ) (positive : zero
     pub nonpivotal-of-syzygy : (q : ℕ) → SyzygyAt o n r q → NonPivotal o n d r q
     nonpivotal-of-syzygy q s =
         Pivots.spanned-of-relation o F (suc (d plus d)) (place-list o n r) q (at n (s .vector))
-          (λ k b. sym (Places.dot-places o L n (suc q) r (s .vector) k positive (s .below)) ∙ ap (λ (f : ℕ → M). f k) (s .syzygy))
-          (λ z. Fields.one-nonzero o F (sym (s .leading) ∙ z))
+        (λ k b. sym (Places.dot-places o L n (suc q) r (s .vector) k positive (s .below)) ∙ ap (λ (f : ℕ → M). f k) (s .syzygy))
+        (λ z. Fields.one-nonzero o F (sym (s .leading) ∙ z))
 
   -- a syzygy scaled so that its leading coefficient is one
   pub scaled-syzygy : (r h : ℕ → ℕ → M) (q : ℕ) → dot (series o) n r h ≡ 𝟘 → BelowPlace o n (suc q) h → (at n h q ≡ O → ⊥) → SyzygyAt o n r q
@@ -138,8 +138,8 @@ module _ {M : Type 0} (o : RingOps M) (F : IsField o) (n : ℕ) (positive : zero
     cross-bounded : (i j : ℕ) → i < n → j < n → Bounded o n (suc d) (cross i j)
     cross-bounded i j a b l c =
         B.below-sum o L (suc d) (E.slot i (r j) (λ e. 𝟘) l) (E.slot j (- r i) (λ e. 𝟘) l)
-          (E.slot-both (Below o (suc d)) i (r j) 𝟘 l (r-bounded j b) (B.below-zero o L (suc d)))
-          (E.slot-both (Below o (suc d)) j (- r i) 𝟘 l (B.below-negative o L (suc d) (r i) (r-bounded i a)) (B.below-zero o L (suc d)))
+        (E.slot-both (Below o (suc d)) i (r j) 𝟘 l (r-bounded j b) (B.below-zero o L (suc d)))
+        (E.slot-both (Below o (suc d)) j (- r i) 𝟘 l (B.below-negative o L (suc d) (r i) (r-bounded i a)) (B.below-zero o L (suc d)))
 
     -- of two classes one has a syzygy of degree at most d
     pub one-of-two-classes : (i j : ℕ) → i < n → j < n → (i ≡ j → ⊥) → (q : ℕ) × (q < n * suc d) × SyzygyAt o n r q × ((q % n ≡ i) ⊎ (q % n ≡ j))
@@ -168,7 +168,7 @@ module _ {M : Type 0} (o : RingOps M) (F : IsField o) (n : ℕ) (positive : zero
         chosen : (z : ℕ → ℕ × (ℕ → ℕ → M)) × ((i : ℕ) → i < n → record { class : z i .0 % n ≡ i; below : BelowPlace o n (suc (z i .0)) (z i .1); leading : at n (z i .1) (z i .0) ≡ I; syzygy : dot (series o) n r (z i .1) ≡ 𝟘 })
         chosen =
             E.choose {A = ℕ × (ℕ → ℕ → M)} (λ i z. record { class : z .0 % n ≡ i; below : BelowPlace o n (suc (z .0)) (z .1); leading : at n (z .1) (z .0) ≡ I; syzygy : dot (series o) n r (z .1) ≡ 𝟘 }) (0, λ i. 𝟘) n
-              (λ i l. let x = s i l in ((x .0, x .2 .vector), record { class = x .1; below = x .2 .below; leading = x .2 .leading; syzygy = x .2 .syzygy }))
+            (λ i l. let x = s i l in ((x .0, x .2 .vector), record { class = x .1; below = x .2 .below; leading = x .2 .leading; syzygy = x .2 .syzygy }))
 
         p : ℕ → ℕ
         p i = chosen .0 i .0
@@ -207,15 +207,15 @@ module _ {M : Type 0} (o : RingOps M) (F : IsField o) (n : ℕ) (positive : zero
         reduced : Reduced o n n T u (λ e. Unit {0}) h
         reduced =
             Reduction.reduce o F n positive n u p (λ j l. chosen .1 j l .below) (λ j l. chosen .1 j l .leading) (λ e. Unit {0}) (λ j l x q e z. tt) T cover (n * suc T) h tt
-              (Places.below-place-of-bounded n positive o (suc T) h (λ i l. E.slot-both (Below o (suc T)) c (shift o T 𝟙) 𝟘 i (B.below-shift o L T 1 (suc T) 𝟙 (omega arith) (B.below-constant o L I)) (B.below-zero o L (suc T))))
+            (Places.below-place-of-bounded n positive o (suc T) h (λ i l. E.slot-both (Below o (suc T)) c (shift o T 𝟙) 𝟘 i (B.below-shift o L T 1 (suc T) 𝟙 (omega arith) (B.below-constant o L I)) (B.below-zero o L (suc T))))
 
         same : dot (series o) n r h ≡ dot (series o) n r (reduced .remainder)
         same =
             Spans.dot-ext (series o) SL n r h (λ i. total (series o) n (λ j. reduced .factor j · u j i) + reduced .remainder i) (λ i l. reduced .is i)
             ∙ Spans.dot-sum (series o) SL n r (λ i. total (series o) n (λ j. reduced .factor j · u j i)) (reduced .remainder)
             ∙ ap (λ t. t + dot (series o) n r (reduced .remainder))
-                (Spans.dot-combination (series o) SL n n r (reduced .factor) u
-                  ∙ Sums.total-zero (series o) SL n (λ j. reduced .factor j · dot (series o) n r (u j)) (λ j l. ap (λ t. reduced .factor j · t) (chosen .1 j l .syzygy) ∙ Sums.product-zero (series o) SL (reduced .factor j)))
+            (Spans.dot-combination (series o) SL n n r (reduced .factor) u
+            ∙ Sums.total-zero (series o) SL n (λ j. reduced .factor j · dot (series o) n r (u j)) (λ j l. ap (λ t. reduced .factor j · t) (chosen .1 j l .syzygy) ∙ Sums.product-zero (series o) SL (reduced .factor j)))
             ∙ Sums.zero-sum (series o) SL (dot (series o) n r (reduced .remainder))
 
         top-is : dot (series o) n r h (T plus d) ≡ r c d
