@@ -17,4 +17,5 @@ pub mod Syzygies
 pub mod Classes
 pub mod Counting
 pub mod BasicPlaces
+pub mod LeadingVectors
 pub mod Theorems

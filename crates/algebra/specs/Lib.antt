@@ -4,3 +4,5 @@ pub mod Divisors
 pub mod Independence
 pub mod Theorems
 pub mod Places
+pub mod Frames
+pub mod Optimal
