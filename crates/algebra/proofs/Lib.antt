@@ -18,4 +18,5 @@ pub mod Classes
 pub mod Counting
 pub mod BasicPlaces
 pub mod LeadingVectors
+pub mod Frames
 pub mod Theorems
