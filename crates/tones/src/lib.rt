@@ -6,6 +6,8 @@ ghost use Rattle.tones.specs.declared.Tone.{Tone};
 use fields::fault::FieldFault;
 use fields::field::Field;
 
+pub mod quadratic;
+
 // The residue k is the variant Tk.
 #[derive(Clone, Copy)]
 pub enum Tone {
