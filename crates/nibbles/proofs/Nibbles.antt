@@ -1,4 +1,4 @@
--- Nibbles are numbered, keep the laws of a ring, and have inverses; z·z + z + 8 has no root. Assumes nothing.
+-- Nibbles are numbered, keep the laws of a ring, and have inverses. Assumes nothing.
 -- The rule is tested against a table at all 256 pairs; the laws are then tested on the table.
 use mathlib.Core.Bool.{Bool, true, false}
 use mathlib.Core.List.{List, [], _∷_}
@@ -183,12 +183,13 @@ inverse-nibble x nz =
 pub nibble-invertible : Invertible nibble-ops
 nibble-invertible x nz = (nibbleOf (getD inverses (codeOf x) 0), inverse-nibble x nz)
 
-nonzero : ℕ → Bool
-nonzero k = ltb 0 (codeOf (quadratic nibble-ops N1 N8 (nibbleOf k)))
+-- the nibble of code k is no root
+abbrev pub nonzero : Nibble → Nibble → ℕ → Bool
+nonzero t c k = ltb 0 (codeOf (quadratic nibble-ops t c (nibbleOf k)))
 
-pub nibble-rootless : Rootless nibble-ops N1 N8
-unfolding nonzero
-nibble-rootless z e =
-    let positive = ltb→lt 0 _ (every-below nonzero 16 tt (codeOf z) (code-below z)) in
-    let none : _≡_ {A = ℕ} (codeOf (quadratic nibble-ops N1 N8 (nibbleOf (codeOf z)))) 0 = ap (λ x. codeOf (quadratic nibble-ops N1 N8 x)) (nibble-code z) ∙ ap codeOf e in
+-- a quadratic has no root where a test of all 16 passes
+pub no-root : (t c : Nibble) → T (every (nonzero t c) 16) → Rootless nibble-ops t c
+no-root t c test z e =
+    let positive = ltb→lt 0 _ (every-below (nonzero t c) 16 test (codeOf z) (code-below z)) in
+    let none : _≡_ {A = ℕ} (codeOf (quadratic nibble-ops t c (nibbleOf (codeOf z)))) 0 = ap (λ x. codeOf (quadratic nibble-ops t c x)) (nibble-code z) ∙ ap codeOf e in
     omega arith

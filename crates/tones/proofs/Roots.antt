@@ -1,21 +1,21 @@
--- No tone is a root of z·z + 1. Assumes nothing.
-use mathlib.Core.Bool.{Bool, true, false}
-use mathlib.Core.Path.{_≡_, sym, ap, _∙_}
+-- A quadratic over the tones has no root where a test of all 31 passes. Assumes nothing.
+use mathlib.Core.Bool.{Bool}
+use mathlib.Core.Path.{_≡_, ap, _∙_}
 use Prim.Native.Nat.{ℕ}
 use lib.Dec.{T, ltb, ltb→lt}
 use native.Mathlib.Omega.{arith}
 use Rattle.fields.specs.Quadratics.{quadratic, Rootless}
 use Rattle.fields.proofs.Tests.{every, every-below}
 use Rattle.tones.specs.Tones.{numberOf, toneOf, tone-ops}
-use Rattle.tones.specs.declared.Tone.the-variants.{T0, T1}
+use Rattle.tones.specs.declared.Tone.{Tone}
 use Rattle.tones.proofs.Tones.{tone-number, number-below}
 
-nonzero : ℕ → Bool
-nonzero k = ltb 0 (numberOf (quadratic tone-ops T0 T1 (toneOf k)))
+-- the tone numbered k is no root
+abbrev pub nonzero : Tone → Tone → ℕ → Bool
+nonzero t c k = ltb 0 (numberOf (quadratic tone-ops t c (toneOf k)))
 
-pub tone-rootless : Rootless tone-ops T0 T1
-unfolding nonzero
-tone-rootless z e =
-    let positive = ltb→lt 0 _ (every-below nonzero 31 tt (numberOf z) (number-below z)) in
-    let none : _≡_ {A = ℕ} (numberOf (quadratic tone-ops T0 T1 (toneOf (numberOf z)))) 0 = ap (λ x. numberOf (quadratic tone-ops T0 T1 x)) (tone-number z) ∙ ap numberOf e in
+pub no-root : (t c : Tone) → T (every (nonzero t c) 31) → Rootless tone-ops t c
+no-root t c test z e =
+    let positive = ltb→lt 0 _ (every-below (nonzero t c) 31 test (numberOf z) (number-below z)) in
+    let none : _≡_ {A = ℕ} (numberOf (quadratic tone-ops t c (toneOf (numberOf z)))) 0 = ap (λ x. numberOf (quadratic tone-ops t c x)) (tone-number z) ∙ ap numberOf e in
     omega arith
