@@ -31,3 +31,11 @@ every-below f (suc n) t k h = at (ℕ-discrete k n) (every-below f n (both-right
     at : Dec (k ≡ n) → (k < n → T (f k)) → T (f k)
     at (yes e) below = subst⁻¹ (λ (m : ℕ). T (f m)) e (both-left (f n) (every f n) t)
     at (no d) below = below (omega arith)
+
+-- the test passes at all pairs below n
+pub every-pair : (f : ℕ → ℕ → Bool) (n : ℕ) → T (every (λ a. every (f a) n) n) → (a b : ℕ) → a < n → b < n → T (f a b)
+every-pair f n t a b ha hb = every-below (f a) n (every-below (λ a. every (f a) n) n t a ha) b hb
+
+-- the test passes at all triples below n
+pub every-triple : (f : ℕ → ℕ → ℕ → Bool) (n : ℕ) → T (every (λ a. every (λ b. every (f a b) n) n) n) → (a b c : ℕ) → a < n → b < n → c < n → T (f a b c)
+every-triple f n t a b c ha hb hc = every-below (f a b) n (every-pair (λ a b. every (f a b) n) n t a b ha hb) c hc

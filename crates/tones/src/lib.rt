@@ -7,6 +7,8 @@ ghost use Rattle.tones.specs.declared.Tone.{Tone};
 use fields::fault::FieldFault;
 use fields::field::Field;
 
+pub mod quadratic;
+
 // The tones' kind on cards.
 const KIND: u8 = 1;
 
