@@ -1,0 +1,23 @@
+// Single places of a table.
+ghost use mathlib.Core.Path.{_≡_};
+ghost use Prim.Native.Nat.{ℕ, _+_, _<_};
+ghost use lib.ListN.{length};
+ghost use Rattle.tables.specs.Places.{at, Kept};
+use fields::field::Field;
+
+// Reads a place, as a coefficient of the polynomial that lies there.
+pub fn get<F: Field>(table: &[F], place: usize) -> F
+    requires { ⌜ place < length (now table) ⌝ }
+    ensures { λ r. ⌜ member r ≡ at ops member (now (table .entry)) place ⌝ }
+{
+    table[place]
+}
+
+// Writes a place.
+pub fn put<F: Field>(table: &mut [F], place: usize, value: F)
+    requires { ⌜ place < length (now table) ⌝ }
+    ensures here { λ _. ⌜ at ops member (now (table .exit)) place ≡ member value ⌝ }
+    ensures others { λ _. ⌜ Kept ops member place 1 (now (table .entry)) (now (table .exit)) ⌝ }
+{
+    table[place] = value;
+}
