@@ -1,2 +1,3 @@
+pub mod LongDivision
 pub mod Parts
 pub mod Places

@@ -3,15 +3,16 @@
 use mathlib.Core.List.{List}
 use mathlib.Core.Path.{_≡_, refl, sym, ap, ap₂, _∙_, fun-ext}
 use Prim.Native.Nat.{ℕ, zero, suc, _+_, _-_, _<_, _≤_}
-use native.Mathlib.Decide.{decLt}
+use native.Mathlib.Decide.{decLt, ℕ-discrete}
 use native.Mathlib.Nat.{not-suc-le-zero, le-of-suc-le-suc}
 use native.Mathlib.Omega.{arith}
 use borrow.Author.Count.{below-more}
 use Rattle.algebra.specs.Rings.{RingOps, RingLaws}
-use Rattle.algebra.specs.Series.{series, shift, scale, Below}
-use Rattle.algebra.proofs.Bounds.{below-sum, below-shift, below-scale}
+use Rattle.algebra.specs.Series.{series, constant, shift, scale, Below}
+use Rattle.algebra.proofs.Bounds.{below-mono, below-sum, below-shift, below-scale, below-constant}
 use Rattle.algebra.proofs.Series.{shift-at, shift-low}
-use Rattle.tables.specs.Places.{at, Within, Apart, Kept, cut, poly-at}
+use Rattle.algebra.proofs.Sums.{zero-sum}
+use Rattle.tables.specs.Places.{at, Within, Apart, Kept, KeptTwo, cut, poly-at}
 
 cut-in : {R : Type 0} (o : RingOps R) (w : ℕ) (f : ℕ → R) (k : ℕ) → k < w → cut o w f k ≡ f k
 unfolding cut
@@ -115,4 +116,73 @@ module _ {F R : Type 0} (o : RingOps R) (member : F → R) where
         | no l ↦
             unchanged k h (λ w. omega arith)
             ∙ sym (ap (λ t. o .sum (poly-at o member xs base count k) t) (shift-at o L power k j multiple e ∙ below-scale o L width x (poly-at o member xs from width) (poly-at-below xs from width) j (omega arith)) ∙ L .sum-zero (poly-at o member xs base count k))
+      ]
+
+  -- the first n places of two parts are exchanged
+  abbrev pub Swapped : ℕ → ℕ → ℕ → List F → List F → Type 0
+  Swapped left right n before after =
+      ((k : ℕ) → k < n → at o member after (left + k) ≡ at o member before (right + k))
+      × ((k : ℕ) → k < n → at o member after (right + k) ≡ at o member before (left + k))
+      × KeptTwo o member left n right n before after
+
+  pub swapped-more : (left right n width : ℕ) (xs ys zs : List F) → Apart left width right width → n < width → Swapped left right n xs ys
+      → at o member zs (left + n) ≡ at o member ys (right + n) → at o member zs (right + n) ≡ at o member ys (left + n)
+      → KeptTwo o member (left + n) 1 (right + n) 1 ys zs
+      → Swapped left right (n + 1) xs zs
+  swapped-more left right n width xs ys zs apart l p e d keep = (
+    below-more _ _
+        (λ k h. keep (left + k) (λ w. omega arith) (λ w. apart (left + k) (omega arith, omega arith) (omega arith, omega arith)) ∙ p .0 k h)
+        (e ∙ p .2 (right + n) (λ w. apart (right + n) (omega arith, omega arith) (omega arith, omega arith)) (λ w. omega arith)),
+    below-more _ _
+        (λ k h. keep (right + k) (λ w. apart (right + k) (omega arith, omega arith) (omega arith, omega arith)) (λ w. omega arith) ∙ p .1 k h)
+        (d ∙ p .2 (left + n) (λ w. omega arith) (λ w. apart (left + n) (omega arith, omega arith) (omega arith, omega arith))),
+    λ k h j. keep k (λ w. h (omega arith, omega arith)) (λ w. j (omega arith, omega arith)) ∙ p .2 k (λ w. h (omega arith, omega arith)) (λ w. j (omega arith, omega arith)),
+  )
+
+  pub poly-at-swapped : (left right n width : ℕ) (xs ys : List F) → Swapped left right n xs ys → n ≡ width
+      → (poly-at o member ys left width ≡ poly-at o member xs right width)
+      × (poly-at o member ys right width ≡ poly-at o member xs left width)
+      × KeptTwo o member left width right width xs ys
+  poly-at-swapped left right n width xs ys p e = (
+    poly-at-is ys left width (poly-at o member xs right width) (poly-at-below xs right width) (λ k h. p .0 k (omega arith) ∙ sym (poly-at-in xs right width k h)),
+    poly-at-is ys right width (poly-at o member xs left width) (poly-at-below xs left width) (λ k h. p .1 k (omega arith) ∙ sym (poly-at-in xs left width k h)),
+    λ k h j. p .2 k (λ w. h (omega arith, omega arith)) (λ w. j (omega arith, omega arith)),
+  )
+
+  -- one coefficient more at the top
+  pub poly-at-more : RingLaws o → (xs : List F) (base k : ℕ) → poly-at o member xs base (k + 1) ≡ series o .sum (poly-at o member xs base k) (shift o k (constant o (at o member xs (base + k))))
+  poly-at-more L xs base k =
+      poly-at-is xs base (k + 1) (series o .sum (poly-at o member xs base k) top)
+      (below-sum o L (k + 1) (poly-at o member xs base k) top (below-mono o L k (k + 1) (poly-at o member xs base k) (omega arith) (poly-at-below xs base k)) (below-shift o L k 1 (k + 1) (constant o x) (omega arith) (below-constant o L x)))
+      (below-more _ _
+      (λ j h. sym (ap₂ (o .sum) (poly-at-in xs base k j h) (shift-low o L k j (constant o x) h) ∙ L .sum-zero (at o member xs (base + j))))
+      (sym (ap₂ (o .sum) (poly-at-below xs base k k (omega arith)) (shift-at o L k k 0 (constant o x) (omega arith)) ∙ zero-sum o L x)))
+    where
+      x : R
+      x = at o member xs (base + k)
+
+      top : ℕ → R
+      top = shift o k (constant o x)
+
+  -- a zero coefficient written
+  pub poly-at-put : RingLaws o → (xs ys : List F) (base width j : ℕ) (x : R) → j < width → at o member xs (base + j) ≡ o .zero → at o member ys (base + j) ≡ x → Kept o member (base + j) 1 xs ys → poly-at o member ys base width ≡ series o .sum (poly-at o member xs base width) (shift o j (constant o x))
+  poly-at-put L xs ys base width j x l was is keep =
+      poly-at-is ys base width (series o .sum (poly-at o member xs base width) top)
+      (below-sum o L width (poly-at o member xs base width) top (poly-at-below xs base width) (below-shift o L j 1 width (constant o x) (omega arith) (below-constant o L x)))
+      (λ k h. elim (ℕ-discrete k j) [
+        | yes e ↦
+            ap (λ i. at o member ys (base + i)) e ∙ is
+            ∙ sym (ap₂ (o .sum) (poly-at-in xs base width k h ∙ ap (λ i. at o member xs (base + i)) e ∙ was) (shift-at o L j k 0 (constant o x) (omega arith)) ∙ zero-sum o L x)
+        | no n ↦
+            keep (base + k) (λ w. n (omega arith))
+            ∙ sym (ap₂ (o .sum) (poly-at-in xs base width k h) (elsewhere k n) ∙ L .sum-zero (at o member xs (base + k)))
+      ])
+    where
+      top : ℕ → R
+      top = shift o j (constant o x)
+
+      elsewhere : (k : ℕ) → (k ≡ j → ⊥) → top k ≡ o .zero
+      elsewhere k n = elim (decLt k j) [
+        | yes h ↦ shift-low o L j k (constant o x) h
+        | no h ↦ shift-at o L j k (k - j) (constant o x) (omega arith) ∙ below-constant o L x (k - j) (omega arith)
       ]

@@ -3,7 +3,7 @@ ghost use mathlib.Core.Path.{_≡_};
 ghost use Prim.Native.Nat.{ℕ, _+_, _<_, _≤_};
 ghost use lib.ListN.{length};
 ghost use Rattle.algebra.specs.Series.{series, shift, scale as scaled};
-ghost use Rattle.tables.specs.Places.{at, Within, Apart, Kept, poly-at};
+ghost use Rattle.tables.specs.Places.{at, Apart, Kept, KeptTwo, poly-at};
 use crate::cells::get;
 use crate::cells::put;
 use fields::field::Field;
@@ -79,5 +79,30 @@ pub fn add_multiple<F: Field>(
 {
     for k in 0..width {
         add_product(table, base + power + k, factor, from + k);
+    }
+}
+
+// Exchanges two places.
+fn exchange<F: Field>(table: &mut [F], left: usize, right: usize)
+    requires { ⌜ left < length (now table) ⌝ ∗ ⌜ right < length (now table) ⌝ }
+    ensures first { λ _. ⌜ at ops member (now (table .exit)) left ≡ at ops member (now (table .entry)) right ⌝ }
+    ensures second { λ _. ⌜ at ops member (now (table .exit)) right ≡ at ops member (now (table .entry)) left ⌝ }
+    ensures others { λ _. ⌜ KeptTwo ops member left 1 right 1 (now (table .entry)) (now (table .exit)) ⌝ }
+{
+    let x = get(table, left);
+    put(table, left, get(table, right));
+    put(table, right, x);
+}
+
+// Exchanges two parts.
+pub fn swap<F: Field>(table: &mut [F], left: usize, right: usize, width: usize)
+    requires room { ⌜ left + width ≤ length (now table) ⌝ ∗ ⌜ right + width ≤ length (now table) ⌝ }
+    requires apart { ⌜ Apart left width right width ⌝ }
+    ensures first { λ _. ⌜ poly-at ops member (now (table .exit)) left width ≡ poly-at ops member (now (table .entry)) right width ⌝ }
+    ensures second { λ _. ⌜ poly-at ops member (now (table .exit)) right width ≡ poly-at ops member (now (table .entry)) left width ⌝ }
+    ensures others { λ _. ⌜ KeptTwo ops member left width right width (now (table .entry)) (now (table .exit)) ⌝ }
+{
+    for k in 0..width {
+        exchange(table, left + k, right + k);
     }
 }
