@@ -3,6 +3,7 @@ use mathlib.Core.Path.{_≡_}
 use Prim.Native.Nat.{ℕ, _<_}
 use Rattle.std.specs.declared.option.Option.{Option}
 use Rattle.std.specs.declared.option.Option.the-variants.{None, Some}
+use Rattle.algebra.specs.Divisors.{Division}
 use Rattle.algebra.specs.Rings.{RingOps}
 use Rattle.algebra.specs.Series.{series, Degree}
 
@@ -10,3 +11,7 @@ use Rattle.algebra.specs.Series.{series, Degree}
 abbrev pub DegreeOf : {R : Type 0} → RingOps R → ℕ → (ℕ → R) → Option ℕ → Type 0
 DegreeOf o width f None = f ≡ series o .zero
 DegreeOf o width f (Some e) = (e < width) × Degree o f e
+
+-- r is the remainder of f by b, a polynomial of degree e
+abbrev pub LeavesRemainder : {R : Type 0} → RingOps R → ℕ → (ℕ → R) → (ℕ → R) → (ℕ → R) → Type 0
+LeavesRemainder o e f b r = (d : Division o e f b) × (d .remainder ≡ r)
