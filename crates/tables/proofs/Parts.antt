@@ -43,11 +43,21 @@ module _ {F R : Type 0} (o : RingOps R) (member : F → R) where
         | no h ↦ poly-at-below xs base width k (omega arith) ∙ sym (b k (omega arith))
       ])
 
+  -- the places above a bound may be left out
+  pub poly-at-narrow : (xs : List F) (base n width : ℕ) → n ≤ width → Below o n (poly-at o member xs base width) → poly-at o member xs base n ≡ poly-at o member xs base width
+  poly-at-narrow xs base n width l b = poly-at-is xs base n (poly-at o member xs base width) b (λ k h. sym (poly-at-in xs base width k (omega arith)))
+
   -- a part apart from what was written is as it was
   pub poly-at-kept : (xs ys : List F) (base width other count : ℕ) → Kept o member base width xs ys → Apart base width other count → poly-at o member ys other count ≡ poly-at o member xs other count
   poly-at-kept xs ys base width other count keep apart =
       poly-at-is ys other count (poly-at o member xs other count) (poly-at-below xs other count)
       (λ k h. keep (other + k) (λ w. apart (other + k) w (omega arith, omega arith)) ∙ sym (poly-at-in xs other count k h))
+
+  -- the same after two parts were written
+  pub poly-at-kept-two : (xs ys : List F) (base width next size other count : ℕ) → KeptTwo o member base width next size xs ys → Apart base width other count → Apart next size other count → poly-at o member ys other count ≡ poly-at o member xs other count
+  poly-at-kept-two xs ys base width next size other count keep apart apart-next =
+      poly-at-is ys other count (poly-at o member xs other count) (poly-at-below xs other count)
+      (λ k h. keep (other + k) (λ w. apart (other + k) w (omega arith, omega arith)) (λ w. apart-next (other + k) w (omega arith, omega arith)) ∙ sym (poly-at-in xs other count k h))
 
   pub kept-none : (xs : List F) (base width : ℕ) → Kept o member base width xs xs
   kept-none xs base width k h = refl
