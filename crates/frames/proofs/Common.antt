@@ -19,10 +19,6 @@ use Rattle.algebra.proofs.Solver.{solve, var, _⊞_, _⊠_, neg}
 use Rattle.algebra.proofs.Sums as Sums
 use Rattle.frames.specs.Common.{SameCommon, GcdOfPair, GcdOfFirst}
 
--- what a field's laws, numbering and inverses give
-pub is-field : {R : Type 0} {o : RingOps R} {order : ℕ} {number : R → ℕ} → FieldLaws o → Numbering o order number → Invertible o → IsField o
-is-field laws numbered inverts = record { laws = laws; decides = numbering-decides numbered; inverts = inverts }
-
 module _ {M : Type 0} (o : RingOps M) (F : IsField o) where
   abbrev L : RingLaws o
   L = F .laws .ring

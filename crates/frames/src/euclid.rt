@@ -2,28 +2,14 @@
 ghost use mathlib.Core.Path.{_≡_};
 ghost use Prim.Native.Nat.{ℕ, _+_, _<_, _≤_};
 ghost use lib.ListN.{length};
-ghost use Rattle.algebra.specs.Rings.{Invertible};
 ghost use Rattle.algebra.specs.Series.{series, Below, Degree};
-ghost use Rattle.tables.specs.Places.{at, Apart, Kept, KeptTwo, poly-at};
+ghost use Rattle.tables.specs.Places.{Apart, KeptTwo, poly-at};
 ghost use Rattle.frames.specs.Common.{GcdOfPair, SameCommon};
 use fields::field::Field;
-use tables::cells::get;
+use tables::cells::inverse_at;
 use tables::polynomials::degree;
 use tables::polynomials::reduce;
 use tables::rows::swap;
-
-// The inverse of what stands at a place, which is not zero.
-pub fn inverse_at<F: Field>(table: &[F], place: usize) -> F
-    requires room { ⌜ place < length (now table) ⌝ }
-    requires nonzero { ⌜ (at ops member (now table) place ≡ ops .zero → ⊥) ⌝ }
-    ensures value { λ r. ⌜ ops .product (at ops member (now (table .entry)) place) (member r) ≡ ops .one ⌝ }
-    ensures invertible { λ _. ⌜ Invertible ops ⌝ }
-{
-    match get(table, place).inverse() {
-        Some(x) => x,
-        None => unreachable(),
-    }
-}
 
 // One step: the polynomial at right, of degree e, goes to left, and what it leaves of the other, which was below s^bound, to right.
 fn euclid_step<F: Field>(

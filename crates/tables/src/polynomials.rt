@@ -2,11 +2,12 @@
 ghost use mathlib.Core.Path.{_≡_};
 ghost use Prim.Native.Nat.{ℕ, _+_, _-_, _<_, _≤_};
 ghost use lib.ListN.{length};
-ghost use Rattle.algebra.specs.Divisors.{Division};
-ghost use Rattle.algebra.specs.Series.{series, shift, scale, Below};
+ghost use Rattle.algebra.specs.Divisors.{Divides};
+ghost use Rattle.algebra.specs.Series.{series, shift, scale, Below, Degree};
 ghost use Rattle.tables.specs.Places.{at, Apart, Kept, KeptTwo, poly-at};
 ghost use Rattle.tables.specs.Polynomials.{DegreeOf, LeavesRemainder};
 use crate::cells::get;
+use crate::cells::inverse_at;
 use crate::cells::put;
 use crate::rows::add_multiple;
 use fields::field::Field;
@@ -86,7 +87,7 @@ pub fn reduce<F: Field>(
 
 // Divides the polynomial at base by a divisor of degree e, given the inverse of its leading coefficient: the quotient goes to a cleared part, the
 // remainder stays at base.
-pub fn divide<F: Field>(
+fn divide<F: Field>(
     table: &mut [F],
     base: usize,
     width: usize,
@@ -107,4 +108,26 @@ pub fn divide<F: Field>(
         let ratio = cancel(table, base, k, divisor, e, inverse);
         put(table, quotient + (k - e), ratio);
     }
+}
+
+// Divides the polynomial at base by a divisor of it, of degree e: the quotient goes to a cleared part, and base is left cleared.
+pub fn divide_exactly<F: Field>(
+    table: &mut [F],
+    base: usize,
+    divisor: usize,
+    e: usize,
+    quotient: usize,
+    width: usize,
+)
+    requires room { ⌜ base + width ≤ length (now table) ⌝ ∗ ⌜ divisor + width ≤ length (now table) ⌝ ∗ ⌜ quotient + width ≤ length (now table) ⌝ ∗ ⌜ e < width ⌝ }
+    requires apart { ⌜ Apart base width divisor width ⌝ ∗ ⌜ Apart base width quotient width ⌝ ∗ ⌜ Apart divisor width quotient width ⌝ }
+    requires degree { ⌜ Degree ops (poly-at ops member (now table) divisor width) e ⌝ }
+    requires divides { ⌜ Divides ops (poly-at ops member (now table) divisor width) (poly-at ops member (now table) base width) ⌝ }
+    requires cleared { ⌜ poly-at ops member (now table) quotient width ≡ series ops .zero ⌝ }
+    ensures quotient { λ _. ⌜ series ops .product (poly-at ops member (now (table .entry)) divisor width) (poly-at ops member (now (table .exit)) quotient width) ≡ poly-at ops member (now (table .entry)) base width ⌝ }
+    ensures cleared { λ _. ⌜ poly-at ops member (now (table .exit)) base width ≡ series ops .zero ⌝ }
+    ensures others { λ _. ⌜ KeptTwo ops member base width quotient width (now (table .entry)) (now (table .exit)) ⌝ }
+{
+    let inverse = inverse_at(table, divisor + e);
+    divide(table, base, width, divisor, e, inverse, quotient);
 }
