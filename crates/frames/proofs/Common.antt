@@ -1,23 +1,17 @@
--- Common divisors and the remainders of Euclid's algorithm. Main results: same-common-step, gcd-of-common, gcd-of-more, exact-division.
+-- Common divisors over a field. Main results: same-common-step (a remainder keeps the common divisors), unit-divisors.
 use mathlib.Core.List.{[], _∷_}
-use mathlib.Core.Path.{_≡_, refl, sym, ap, ap₂, subst, _∙_}
 use mathlib.Core.Logic.{_↔_}
-use Prim.Native.Nat.{ℕ, _+_ as _plus_, _<_, _≤_}
-use native.Mathlib.Omega.{arith}
-use native.Mathlib.Decide.{decLt, ℕ-discrete}
-use borrow.Author.Count.{below-more}
-use Rattle.algebra.specs.Rings.{RingOps, RingLaws, IsField, FieldLaws, Invertible, Numbering}
-use Rattle.algebra.specs.Series.{series, scale, constant, Below, Degree, Polynomial}
-use Rattle.algebra.specs.Divisors.{Division, Divides, Monic, MonicGcd, AllZero, DividedRow, VectorDegree}
+use mathlib.Core.Path.{_≡_, refl, sym, ap, subst, _∙_, fun-ext}
+use Prim.Native.Nat.{ℕ}
+use Rattle.algebra.specs.Rings.{RingOps, RingLaws, IsField}
+use Rattle.algebra.specs.Series.{series, scale, constant}
+use Rattle.algebra.specs.Divisors.{Division, Divides}
 use Rattle.algebra.proofs.Bounds as B
-use Rattle.algebra.proofs.Degrees as D
 use Rattle.algebra.proofs.Division as V
-use Rattle.algebra.proofs.Fields.{numbering-decides}
-use Rattle.algebra.proofs.Gcd as G
 use Rattle.algebra.proofs.Series as S
 use Rattle.algebra.proofs.Solver.{solve, var, _⊞_, _⊠_, neg}
 use Rattle.algebra.proofs.Sums as Sums
-use Rattle.frames.specs.Common.{SameCommon, GcdOfPair, GcdOfFirst}
+use Rattle.frames.specs.Common.{SameCommon}
 
 module _ {M : Type 0} (o : RingOps M) (F : IsField o) where
   abbrev L : RingLaws o
@@ -45,3 +39,18 @@ module _ {M : Type 0} (o : RingOps M) (F : IsField o) where
           ap (λ t. t + g · (- (d .quotient))) (d .is)
           ∙ solve (series o) SL (g ∷ d .quotient ∷ d .remainder ∷ []) (var 0 ⊠ var 1 ⊞ var 2 ⊞ var 0 ⊠ neg (var 1)) (var 2) refl
           ∙ r-is
+
+  -- the divisors of f x, with x a unit, are those of f
+  pub unit-divisors : (f h : ℕ → M) (x y : M) → y ⊙ x ≡ I → Divides o h (scale o x f) ↔ Divides o h f
+  unit-divisors f h x y unit = (
+    λ d. subst (Divides o h) back (divides-scale h (scale o x f) y d),
+    λ d. divides-scale h f x d,
+  )
+    where
+      divides-scale : (h f : ℕ → M) (z : M) → Divides o h f → Divides o h (scale o z f)
+      divides-scale h f z d =
+          subst (Divides o h) (SL .product-comm f (constant o z) ∙ S.constant-product o L z f)
+          (V.divides-product o F h f (constant o z) d (B.polynomial-constant o L z))
+
+      back : scale o y (scale o x f) ≡ f
+      back = fun-ext (λ k. sym (L .product-assoc y x (f k)) ∙ ap (λ t. t ⊙ f k) unit ∙ Sums.one-product o L (f k))

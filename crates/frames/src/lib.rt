@@ -1,2 +1,3 @@
 // Frames of a row of polynomials: its greatest common divisor and the row divided by it.
-pub mod euclid;
+mod euclid;
+pub mod row;
