@@ -1,3 +1,6 @@
 pub mod Cards
+pub mod Chains
+pub mod Faults
 pub mod Overwriting
+pub mod Reading
 pub mod Writing
