@@ -3,4 +3,5 @@ pub mod Chains
 pub mod Faults
 pub mod Overwriting
 pub mod Reading
+pub mod RoundTrip
 pub mod Writing
