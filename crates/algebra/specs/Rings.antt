@@ -36,3 +36,9 @@ pub record Numbering {R : Type 0} (o : RingOps R) (order : ℕ) (number : R → 
   pub named : (k : ℕ) → k < order → (x : R) × (number x ≡ k)
   pub apart : (x y : R) → number x ≡ number y → x ≡ y
   pub zero-first : number (o .zero) ≡ 0
+
+-- a field whose members can be told apart
+pub record IsField {R : Type 0} (o : RingOps R) : Type 0 where
+  pub laws : FieldLaws o
+  pub decides : (x y : R) → Dec (x ≡ y)
+  pub inverts : Invertible o

@@ -14,5 +14,8 @@ layer-number Link = 4
 abbrev pub field-number : FieldFault → ℕ
 field-number CodeTooLarge = 5
 
+abbrev pub field-layer : FieldFault → Layer
+field-layer CodeTooLarge = Field
+
 abbrev pub field-place : FieldFault → ℕ
 field-place CodeTooLarge = 0

@@ -1,3 +1,4 @@
 pub mod Elements
 pub mod Faults
 pub mod Quadratics
+pub mod Questions

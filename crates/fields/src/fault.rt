@@ -1,9 +1,8 @@
 // Refusals: what each carries, and the field's own.
 ghost use mathlib.Core.Path.{_≡_};
 ghost use Prim.Native.Nat.{ℕ};
-ghost use Rattle.fields.specs.Faults.{layer-number, field-number, field-place};
+ghost use Rattle.fields.specs.Faults.{layer-number, field-number, field-layer, field-place};
 ghost use Rattle.fields.specs.declared.fault.Layer.{Layer};
-ghost use Rattle.fields.specs.declared.fault.Layer.the-variants.{Field};
 use std::fmt;
 
 // The layer whose rule a refused call broke.
@@ -53,7 +52,7 @@ pub enum FieldFault {
 pub impl Refusal for FieldFault as FieldRefusal {
     ghost numbered = { field-number };
 
-    ghost layered = { λ _. Field };
+    ghost layered = { field-layer };
 
     ghost placed = { field-place };
 

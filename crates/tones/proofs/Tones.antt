@@ -8,7 +8,7 @@ use native.Mathlib.Omega.{arith}
 use lib.Dec.{T, eqb, eqb→eq}
 use lib.ListN.{getD}
 use Rattle.algebra.specs.Rings.{RingOps, RingLaws, FieldLaws, Invertible, Numbering}
-use Rattle.tones.specs.Tones.{numberOf, tones, toneOf, tone-ops}
+use Rattle.tones.specs.Tones.{numberOf, tones, toneOf, tone-ops, inverses}
 use Rattle.tones.specs.declared.Tone.{Tone}
 use Rattle.tones.specs.declared.Tone.the-variants.{T0, T1, T2, T3, T4, T5, T6, T7, T8, T9, T10, T11, T12, T13, T14, T15, T16, T17, T18, T19, T20, T21, T22, T23, T24, T25, T26, T27, T28, T29, T30}
 use Rattle.fields.proofs.Tests.{every, every-below}
@@ -123,10 +123,7 @@ tone-numbering = record {
   zero-first = refl;
 }
 
--- the table of inverses
-abbrev pub inverses : List ℕ
-inverses = 0 ∷ 1 ∷ 16 ∷ 21 ∷ 8 ∷ 25 ∷ 26 ∷ 9 ∷ 4 ∷ 7 ∷ 28 ∷ 17 ∷ 13 ∷ 12 ∷ 20 ∷ 29 ∷ 2 ∷ 11 ∷ 19 ∷ 18 ∷ 14 ∷ 3 ∷ 24 ∷ 27 ∷ 22 ∷ 5 ∷ 6 ∷ 23 ∷ 10 ∷ 15 ∷ 30 ∷ []
-
+-- the table's rule, as a test
 inverted : ℕ → Bool
 inverted k = eqb (suc k * getD inverses (suc k) 0 % 31) 1
 

@@ -54,3 +54,7 @@ tone-ops = record {
   negative = λ x. toneOf (31 - numberOf x);
   product = λ x y. toneOf (numberOf x * numberOf y);
 }
+
+-- the number of each residue's inverse, 0 for zero, which has none
+abbrev pub inverses : List ℕ
+inverses = 0 ∷ 1 ∷ 16 ∷ 21 ∷ 8 ∷ 25 ∷ 26 ∷ 9 ∷ 4 ∷ 7 ∷ 28 ∷ 17 ∷ 13 ∷ 12 ∷ 20 ∷ 29 ∷ 2 ∷ 11 ∷ 19 ∷ 18 ∷ 14 ∷ 3 ∷ 24 ∷ 27 ∷ 22 ∷ 5 ∷ 6 ∷ 23 ∷ 10 ∷ 15 ∷ 30 ∷ []

@@ -1,12 +1,16 @@
 // Tones: residues modulo 31, as an enumeration of the 31 members.
 ghost use mathlib.Core.Path.{_≡_};
-ghost use Prim.Native.Nat.{ℕ, _<_, _%_};
-ghost use Rattle.tones.specs.Tones.{numberOf, toneOf, tone-ops};
+ghost use Prim.Native.Nat.{_<_, _%_};
+ghost use lib.ListN.{getD};
+ghost use Rattle.tones.specs.Tones.{numberOf, toneOf, tone-ops, inverses};
 ghost use Rattle.tones.specs.declared.Tone.{Tone};
 use fields::fault::FieldFault;
 use fields::field::Field;
 
 pub mod quadratic;
+
+// The tones' kind on cards.
+const KIND: u8 = 1;
 
 // The residue k is the variant Tk.
 #[derive(Clone, Copy)]
@@ -81,7 +85,8 @@ static INVERSES: [u16; 31] = [
 
 // The tone of a number's residue modulo 31.
 fn residue(number: u16) -> Tone
-    ensures { λ r. ⌜ r ≡ toneOf number ⌝ }
+    ensures value { λ r. ⌜ r ≡ toneOf number ⌝ }
+    ensures remainder { λ r. ⌜ numberOf r ≡ number % 31 ⌝ }
 {
     match number % 31 {
         1 => Tone::T1,
@@ -118,8 +123,17 @@ fn residue(number: u16) -> Tone
     }
 }
 
+// The number of a tone's inverse.
+fn inverse_number(number: u16) -> u16
+    requires { ⌜ number < 31 ⌝ }
+    ensures { λ r. ⌜ r ≡ getD inverses number 0 ⌝ }
+{
+    INVERSES[number as usize]
+}
+
 fn number(tone: Tone) -> u16
-    ensures { λ r. ⌜ r ≡ numberOf tone ⌝ }
+    ensures value { λ r. ⌜ r ≡ numberOf tone ⌝ }
+    ensures below { λ r. ⌜ r < 31 ⌝ }
 {
     tone as u16
 }
@@ -138,11 +152,11 @@ pub impl Field for Tone as ToneField {
     ghost tag = { 1 };
 
     fn zero() -> Tone {
-        Tone::T0
+        residue(0)
     }
 
     fn one() -> Tone {
-        Tone::T1
+        residue(1)
     }
 
     fn add(self, other: Tone) -> Tone {
@@ -160,7 +174,7 @@ pub impl Field for Tone as ToneField {
     fn inverse(self) -> Option<Tone> {
         match self {
             Tone::T0 => None,
-            _ => Some(residue(INVERSES[number(self) as usize])),
+            _ => Some(residue(inverse_number(number(self)))),
         }
     }
 
@@ -173,7 +187,7 @@ pub impl Field for Tone as ToneField {
     }
 
     fn code(self) -> u16 {
-        number(self)
+        self as u16
     }
 
     fn element(code: u32) -> Result<Tone, FieldFault> {
@@ -185,6 +199,6 @@ pub impl Field for Tone as ToneField {
     }
 
     fn kind() -> u8 {
-        1
+        KIND
     }
 }

@@ -1,0 +1,50 @@
+-- Bounded searches among numbers. Main results: first-below (the first number with a decidable property), all-or-not, common-top (a bound of finitely many numbers).
+use mathlib.Core.Path.{_≡_, refl, sym, ap, ap₂, _∙_, subst}
+use mathlib.Core.Logic.{_⊎_, inl, inr}
+use Prim.Native.Nat.{ℕ, zero, suc, _≤_, _<_, zero-le, suc-le-suc, max}
+use native.Mathlib.Nat.{le-of-suc-le-suc, not-suc-le-zero, le-max-left, le-max-right, le-trans}
+use native.Mathlib.Omega.{arith}
+
+-- the first number below K with a property, or none
+pub first-below : (K : ℕ) (Q : ℕ → Type 0) → ((k : ℕ) → Dec (Q k)) → ((k : ℕ) → k < K → Q k → ⊥) ⊎ ((k : ℕ) × (k < K) × Q k × ((l : ℕ) → l < k → Q l → ⊥))
+first-below zero Q dec = inl (λ k h. absurd (not-suc-le-zero h))
+first-below (suc K) Q dec = go (dec 0) (first-below K (λ k. Q (suc k)) (λ k. dec (suc k)))
+  where
+    none : (Q 0 → ⊥) → ((k : ℕ) → k < K → Q (suc k) → ⊥) → (k : ℕ) → k < suc K → Q k → ⊥
+    none n r zero h = n
+    none n r (suc k) h = r k (le-of-suc-le-suc h)
+
+    earlier : (Q 0 → ⊥) → (k : ℕ) → ((l : ℕ) → l < k → Q (suc l) → ⊥) → (l : ℕ) → l < suc k → Q l → ⊥
+    earlier n k r zero h = n
+    earlier n k r (suc l) h = r l (le-of-suc-le-suc h)
+
+    go : Dec (Q 0) → ((k : ℕ) → k < K → Q (suc k) → ⊥) ⊎ ((k : ℕ) × (k < K) × Q (suc k) × ((l : ℕ) → l < k → Q (suc l) → ⊥)) → ((k : ℕ) → k < suc K → Q k → ⊥) ⊎ ((k : ℕ) × (k < suc K) × Q k × ((l : ℕ) → l < k → Q l → ⊥))
+    go (yes q) r = inr (0, suc-le-suc zero-le, q, λ l h. absurd (not-suc-le-zero h))
+    go (no n) (inl r) = inl (none n r)
+    go (no n) (inr (k, h, q, f)) = inr (suc k, suc-le-suc h, q, earlier n k f)
+
+-- a property holds of all numbers below n, or fails at one
+pub all-or-not : (n : ℕ) (A B : ℕ → Type 0) → ((i : ℕ) → i < n → A i ⊎ B i) → ((i : ℕ) → i < n → A i) ⊎ ((i : ℕ) × (i < n) × B i)
+all-or-not zero A B d = inl (λ i h. absurd (not-suc-le-zero h))
+all-or-not (suc n) A B d = go (d 0 (suc-le-suc zero-le)) (all-or-not n (λ i. A (suc i)) (λ i. B (suc i)) (λ i h. d (suc i) (suc-le-suc h)))
+  where
+    all : A 0 → ((i : ℕ) → i < n → A (suc i)) → (i : ℕ) → i < suc n → A i
+    all a r zero h = a
+    all a r (suc i) h = r i (le-of-suc-le-suc h)
+
+    go : A 0 ⊎ B 0 → ((i : ℕ) → i < n → A (suc i)) ⊎ ((i : ℕ) × (i < n) × B (suc i)) → ((i : ℕ) → i < suc n → A i) ⊎ ((i : ℕ) × (i < suc n) × B i)
+    go (inr b) r = inr (0, suc-le-suc zero-le, b)
+    go (inl a) (inl r) = inl (all a r)
+    go (inl a) (inr (i, h, b)) = inr (suc i, suc-le-suc h, b)
+
+-- finitely many numbers have a bound
+pub common-top : (n : ℕ) (p : ℕ → ℕ) → (B : ℕ) × ((i : ℕ) → i < n → p i ≤ B)
+common-top zero p = (0, λ i h. absurd (not-suc-le-zero h))
+common-top (suc n) p = go (common-top n (λ i. p (suc i)))
+  where
+    go : (B : ℕ) × ((i : ℕ) → i < n → p (suc i) ≤ B) → (B : ℕ) × ((i : ℕ) → i < suc n → p i ≤ B)
+    go (B, f) = (max (p 0) B, all)
+      where
+        all : (i : ℕ) → i < suc n → p i ≤ max (p 0) B
+        all zero h = le-max-left (p 0) B
+        all (suc i) h = le-trans (f i (le-of-suc-le-suc h)) (le-max-right (p 0) B)

@@ -1,0 +1,4 @@
+pub mod Generators
+pub mod Overwriting
+pub mod Terms
+pub mod Whole

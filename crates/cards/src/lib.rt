@@ -1,0 +1,4 @@
+// Cards: designs kept as bytes.
+mod bytes;
+mod chains;
+pub mod write;

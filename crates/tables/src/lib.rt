@@ -1,0 +1,15 @@
+// Lent tables of elements, read by the members that they mean.
+ghost use mathlib.Core.Path.{_≡_};
+ghost use Prim.Native.Nat.{ℕ};
+ghost use Rattle.tables.specs.Places.{Cleared};
+use fields::field::Field;
+
+// Sets every place to zero.
+pub fn clear<F: Field>(table: &mut [F])
+    ensures { λ _. ⌜ Cleared ops member (now (table .exit)) ⌝ }
+{
+    let zero = F::zero();
+    for x in table.iter_mut() {
+        *x = zero;
+    }
+}
