@@ -8,7 +8,7 @@ use native.Mathlib.Decide.{decLe, decLt, ℕ-discrete}
 use native.Mathlib.Bridge.{le-prop}
 use native.Mathlib.Omega.{arith}
 use Rattle.algebra.specs.Rings.{RingOps, RingLaws, IsField}
-use Rattle.algebra.specs.Series.{total, dot, constant, series, shift, Below, Polynomial}
+use Rattle.algebra.specs.Series.{sum-below, total, dot, constant, series, shift, Below, Polynomial}
 use Rattle.algebra.specs.Divisors.{Combination, VectorDegree, BoundedCombination}
 use Rattle.algebra.specs.Independence.{All, Domain, Spanned, Dependent, Independent}
 use Rattle.algebra.specs.Places.{place-list, NonPivotal, Pivotal, Basic, BasicPlaces}
@@ -22,7 +22,7 @@ use Rattle.algebra.proofs.Pivots as Pivots
 use Rattle.algebra.proofs.Pivots.{PivotalSpan}
 use Rattle.algebra.proofs.DividedRow as R
 use Rattle.algebra.proofs.Counting as C
-use Rattle.algebra.proofs.Counting.{sum-below, keep, Enumerated}
+use Rattle.algebra.proofs.Counting.{keep, Enumerated}
 use Rattle.algebra.proofs.Places as Places
 use Rattle.algebra.proofs.Syzygies as Syzygies
 use Rattle.algebra.proofs.Classes as Classes

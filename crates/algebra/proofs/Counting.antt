@@ -5,12 +5,8 @@ use mathlib.Core.Logic.{_⊎_, inl, inr}
 use Prim.Native.Nat.{ℕ, zero, suc, _≤_, _<_, _+_, _*_, zero-le, suc-le-suc}
 use native.Mathlib.Nat.{le-of-suc-le-suc, not-suc-le-zero, add-zero, zero-add, suc-add, add-assoc, add-comm, mul-zero, mul-suc, zero-mul, suc-mul}
 use native.Mathlib.Omega.{arith}
+use Rattle.algebra.specs.Series.{sum-below}
 use Rattle.algebra.proofs.Exchange.{skip}
-
--- f 0 + .. + f (n - 1)
-abbrev pub sum-below : ℕ → (ℕ → ℕ) → ℕ
-sum-below zero f = 0
-sum-below (suc n) f = f 0 + sum-below n (λ k. f (suc k))
 
 -- x where a property holds, and 0 elsewhere
 abbrev pub keep : {A : Type 0} → Dec A → ℕ → ℕ

@@ -52,16 +52,16 @@ rising-le m p t rp rt among j l = at-least j l (rising-ahead m f f-rising j l)
       where
         backwards : (i j : ℕ) → i < j → j < m → t (f i) ≡ p i → t (f j) ≡ p j → f i < m → f j ≤ f i → ⊥
         backwards i j h b x y c le = elim (decLt (f j) (f i)) [
-            yes less ↦ (let q = rt (f j) (f i) less c in let s = rp i j h b in omega arith)
+          | yes less ↦ (let q = rt (f j) (f i) less c in let s = rp i j h b in omega arith)
           | no same ↦ (let q : f j ≡ f i = omega arith in let s = rp i j h b in let z = ap t q in omega arith)
-          ]
+        ]
 
     at-least : (j : ℕ) → j < m → j ≤ f j → t j ≤ p j
     at-least j l h =
         let x = f-props j l in
         elim (decLt j (f j)) [
-          yes less ↦ (let q = rt j (f j) less (x .0) in let s = x .1 in omega arith)
-        | no same ↦ (let q : j ≡ f j = omega arith in let z = ap t q in let s = x .1 in omega arith)
+          | yes less ↦ (let q = rt j (f j) less (x .0) in let s = x .1 in omega arith)
+          | no same ↦ (let q : j ≡ f j = omega arith in let z = ap t q in let s = x .1 in omega arith)
         ]
 
 -- what makes h the check column of the basic place p
@@ -88,12 +88,12 @@ module _ {M : Type 0} (o : RingOps M) (F : IsField o) (m d : ℕ) (r : ℕ → �
 
   open RingOps o using (zero as O, one as I, product as _⊙_, sum as _⊕_, negative as minus)
   open RingOps (series o) using (zero as 𝟘, one as 𝟙, sum as _+_, negative as -_, product as _·_)
+
   infixl 60 _+_
   infixl 60 _⊕_
   infixl 70 _·_
   infixl 70 _⊙_
   infix 80 -_
-
   positive : zero < n
   positive = suc-le-suc zero-le
 
@@ -104,21 +104,21 @@ module _ {M : Type 0} (o : RingOps M) (F : IsField o) (m d : ℕ) (r : ℕ → �
       at-zero : (q : ℕ) → q < places → at n h q ≡ O
       at-zero =
           Pivots.pivotal-unique o F width (place-list o n r) places (at n h)
-            (λ q l s. off (q % n) (q / n) (mod-lt q positive) (Classes.power-within o F n positive d r v q l) (subst (NonPivotal o n d r) (sym (div-add-mod q n)) s))
-            (λ k l. sym (Places.dot-places o L n places r h k positive (Places.below-place-of-bounded n positive o (suc d) h b)) ∙ ap (λ (f : ℕ → M). f k) e)
+          (λ q l s. off (q % n) (q / n) (mod-lt q positive) (Classes.power-within o F n positive d r v q l) (subst (NonPivotal o n d r) (sym (div-add-mod q n)) s))
+          (λ k l. sym (Places.dot-places o L n places r h k positive (Places.below-place-of-bounded n positive o (suc d) h b)) ∙ ap (λ (f : ℕ → M). f k) e)
 
       coefficient : (k : ℕ) → Dec (k < suc d) → h i k ≡ O
       coefficient k (yes l) = sym (Places.at-place n positive h i k a) ∙ at-zero (n * k plus i) (Classes.place-within o F n positive d r v k i a l)
       coefficient k (no l) = b i a k (omega arith)
 
-  difference-zero : (h e : ℕ → ℕ → M) → Bounded o n (suc d) h → Bounded o n (suc d) e → ((i k : ℕ) → i < n → k < suc d → NonPivotal o n d r (n * k plus i) → h i k ≡ e i k) → dot (series o) n r h ≡ dot (series o) n r e → (i : ℕ) → i < n → h i ≡ e i
+  pub difference-zero : (h e : ℕ → ℕ → M) → Bounded o n (suc d) h → Bounded o n (suc d) e → ((i k : ℕ) → i < n → k < suc d → NonPivotal o n d r (n * k plus i) → h i k ≡ e i k) → dot (series o) n r h ≡ dot (series o) n r e → (i : ℕ) → i < n → h i ≡ e i
   difference-zero h e b c off p i a =
       Sums.equal-of-difference (series o) SL (h i) (e i)
-        (pivotal-vector-zero (λ j. h j + (- e j))
-          (λ j l. B.below-sum o L (suc d) (h j) (- e j) (b j l) (B.below-negative o L (suc d) (e j) (c j l)))
-          (λ j k l f s. ap (λ t. t ⊕ minus (e j k)) (off j k l f s) ∙ L .sum-negative (e j k))
-          (Spans.dot-sum (series o) SL n r h (λ j. - e j) ∙ ap₂ _+_ p (Spans.dot-negative (series o) SL n r e) ∙ SL .sum-negative (dot (series o) n r e))
-          i a)
+      (pivotal-vector-zero (λ j. h j + (- e j))
+      (λ j l. B.below-sum o L (suc d) (h j) (- e j) (b j l) (B.below-negative o L (suc d) (e j) (c j l)))
+      (λ j k l f s. ap (λ t. t ⊕ minus (e j k)) (off j k l f s) ∙ L .sum-negative (e j k))
+      (Spans.dot-sum (series o) SL n r h (λ j. - e j) ∙ ap₂ _+_ p (Spans.dot-negative (series o) SL n r e) ∙ SL .sum-negative (dot (series o) n r e))
+      i a)
 
   check-unique : (p : ℕ) (h e : ℕ → ℕ → M) → CheckColumn o n d r p h → CheckColumn o n d r p e → (i : ℕ) → i < n → h i ≡ e i
   check-unique p h e x y = difference-zero h e (x .off .bounded) (y .off .bounded) (λ i k a l s. same i k a l s (ℕ-discrete (n * k plus i) p)) (x .is ∙ sym (y .is))
@@ -132,18 +132,21 @@ module _ {M : Type 0} (o : RingOps M) (F : IsField o) (m d : ℕ) (r : ℕ → �
   check-exists p b =
       let s = Pivots.pivotal-span o F width (place-list o n r) p (place-list o n r p) (b .non-pivotal) in
       let x = E.slot p I (λ j. minus (s .factor j)) in
-      let below : BelowPlace o n (suc p) (spread n (Spans.cut o (suc p) x)) = λ i k a l. Spans.cut-high o (suc p) x (n * k plus i) l in
-      (spread n (Spans.cut o (suc p) x), record {
-        off = record {
-          bounded = Places.bounded-of-below-place n positive o (suc p) (suc d) (spread n (Spans.cut o (suc p) x)) (b .within) below;
-          zero-off = λ i k a l t ne. elim (decLt (n * k plus i) p) [
-              yes less ↦ Spans.cut-low o (suc p) x (n * k plus i) (omega arith) ∙ Pivots.slot-low p I (λ j. minus (s .factor j)) (n * k plus i) less ∙ ap minus (s .off (n * k plus i) less t) ∙ Sums.negative-zero o L
-            | no more ↦ Spans.cut-high o (suc p) x (n * k plus i) (above (n * k plus i) ne more)
+      let below : BelowPlace o n (suc p) (spread n (Spans.cut o (suc p) x)) = λ i k a l. Spans.cut-high o (suc p) x (n * k plus i) l in (
+        spread n (Spans.cut o (suc p) x),
+        record {
+          off = record {
+            bounded = Places.bounded-of-below-place n positive o (suc p) (suc d) (spread n (Spans.cut o (suc p) x)) (b .within) below;
+            zero-off = λ i k a l t ne. elim (decLt (n * k plus i) p) [
+              | yes less ↦ Spans.cut-low o (suc p) x (n * k plus i) (omega arith) ∙ Pivots.slot-low p I (λ j. minus (s .factor j)) (n * k plus i) less ∙ ap minus (s .off (n * k plus i) less t) ∙ Sums.negative-zero o L
+              | no more ↦ Spans.cut-high o (suc p) x (n * k plus i) (above (n * k plus i) ne more)
             ];
-        };
-        one = λ i k a e. Spans.cut-low o (suc p) x (n * k plus i) (omega arith) ∙ ap x e ∙ E.slot-at p I (λ j. minus (s .factor j));
-        is = Syzygies.relation-syzygy o F n positive d r (v .bounded) p (s .factor) (b .within) (s .is);
-      }, below)
+          };
+          one = λ i k a e. Spans.cut-low o (suc p) x (n * k plus i) (omega arith) ∙ ap x e ∙ E.slot-at p I (λ j. minus (s .factor j));
+          is = Syzygies.relation-syzygy o F n positive d r (v .bounded) p (s .factor) (b .within) (s .is);
+        },
+        below,
+      )
     where
       above : (q : ℕ) → (q ≡ p → ⊥) → (q < p → ⊥) → suc p ≤ q
       above q ne more = elim (decLt p q) [ yes h ↦ h | no h ↦ absurd (ne (omega arith)) ]
@@ -154,16 +157,19 @@ module _ {M : Type 0} (o : RingOps M) (F : IsField o) (m d : ℕ) (r : ℕ → �
     first-exists =
         let b = R.small-combination o F n d r (λ i l. (suc d, v .bounded i l)) one v 𝟙 (B.below-mono o L 1 width 𝟙 (omega arith) (B.below-constant o L I)) in
         let lists : Spanned o All places width (place-list o n r) 𝟙 = record {
-              factor = at n (b .vector);
-              inside = λ q l. tt;
-              is = λ k l. ap (λ (f : ℕ → M). f k) (sym (b .is)) ∙ Places.dot-places o L n places r (b .vector) k positive (Places.below-place-of-bounded n positive o (suc d) (b .vector) (b .bounded));
-            } in
+          factor = at n (b .vector);
+          inside = λ q l. tt;
+          is = λ k l. ap (λ (f : ℕ → M). f k) (sym (b .is)) ∙ Places.dot-places o L n places r (b .vector) k positive (Places.below-place-of-bounded n positive o (suc d) (b .vector) (b .bounded));
+        } in
         let s = Pivots.pivotal-span o F width (place-list o n r) places 𝟙 lists in
-        let x = s .factor in
-        (spread n (Spans.cut o places x), record {
-          bounded = Places.bounded-of-below-place n positive o places (suc d) (spread n (Spans.cut o places x)) (le-refl places) (λ i k a l. Spans.cut-high o places x (n * k plus i) l);
-          zero-off = λ i k a l t ne. let w = Classes.place-within o F n positive d r v k i a l in Spans.cut-low o places x (n * k plus i) w ∙ s .off (n * k plus i) w t;
-        }, Syzygies.vector-of-relation o F n positive d r (v .bounded) places x 𝟙 (le-refl places) (B.below-mono o L 1 width 𝟙 (omega arith) (B.below-constant o L I)) (λ k l. sym (s .is k l)))
+        let x = s .factor in (
+          spread n (Spans.cut o places x),
+          record {
+            bounded = Places.bounded-of-below-place n positive o places (suc d) (spread n (Spans.cut o places x)) (le-refl places) (λ i k a l. Spans.cut-high o places x (n * k plus i) l);
+            zero-off = λ i k a l t ne. let w = Classes.place-within o F n positive d r v k i a l in Spans.cut-low o places x (n * k plus i) w ∙ s .off (n * k plus i) w t;
+          },
+          Syzygies.vector-of-relation o F n positive d r (v .bounded) places x 𝟙 (le-refl places) (B.below-mono o L 1 width 𝟙 (omega arith) (B.below-constant o L I)) (λ k l. sym (s .is k l)),
+        )
 
     checks : (z : ℕ → ℕ → ℕ → M) × ((j : ℕ) → j < m → CheckColumn o n d r (Basics.basic-place o F m d r v j) (z j))
     checks = E.choose {A = ℕ → ℕ → M} (λ j h. CheckColumn o n d r (Basics.basic-place o F m d r v j) h) (λ i. 𝟘) m (λ j l. let x = check-exists (Basics.basic-place o F m d r v j) (Basics.basic-places o F m d r v .basic j l) in (x .0, x .1))
@@ -171,15 +177,18 @@ module _ {M : Type 0} (o : RingOps M) (F : IsField o) (m d : ℕ) (r : ℕ → �
     pub frame-columns-exist : (p : ℕ → ℕ) × (c : ℕ → ℕ → ℕ → M) × FrameColumns o m d r p c
     frame-columns-exist =
         let f = first-exists in
-        let z = checks in
-        (Basics.basic-place o F m d r v, E.slot 0 (f .0) (z .0), record {
-          places = Basics.basic-places o F m d r v;
-          first-off = f .1;
-          first = f .2;
-          check-off = λ j l. z .1 j l .off;
-          check-one = λ j i k l. z .1 j l .one i k;
-          check = λ j l. z .1 j l .is;
-        })
+        let z = checks in (
+          Basics.basic-place o F m d r v,
+          E.slot 0 (f .0) (z .0),
+          record {
+            places = Basics.basic-places o F m d r v;
+            first-off = f .1;
+            first = f .2;
+            check-off = λ j l. z .1 j l .off;
+            check-one = λ j i k l. z .1 j l .one i k;
+            check = λ j l. z .1 j l .is;
+          },
+        )
 
   check-of : (p : ℕ → ℕ) (c : ℕ → ℕ → ℕ → M) → FrameColumns o m d r p c → (j : ℕ) → j < m → CheckColumn o n d r (p j) (c (suc j))
   check-of p c f j l = record { off = f .check-off j l; one = λ i k. f .check-one j i k l; is = f .check j l }
@@ -188,8 +197,8 @@ module _ {M : Type 0} (o : RingOps M) (F : IsField o) (m d : ℕ) (r : ℕ → �
   pub places-unique : (p t : ℕ → ℕ) → BasicPlaces o n d r m p → BasicPlaces o n d r m t → (j : ℕ) → j < m → p j ≡ t j
   places-unique p t x y j l =
       le-antisymm
-        (rising-le m t p (y .rising) (x .rising) (λ k h. x .every (t k) (y .basic k h)) j l)
-        (rising-le m p t (x .rising) (y .rising) (λ k h. y .every (p k) (x .basic k h)) j l)
+      (rising-le m t p (y .rising) (x .rising) (λ k h. x .every (t k) (y .basic k h)) j l)
+      (rising-le m p t (x .rising) (y .rising) (λ k h. y .every (p k) (x .basic k h)) j l)
 
   pub frame-columns-unique : (p t : ℕ → ℕ) (c e : ℕ → ℕ → ℕ → M) → FrameColumns o m d r p c → FrameColumns o m d r t e → (j i : ℕ) → j < suc m → i < n → c j i ≡ e j i
   frame-columns-unique p t c e x y zero i l a = difference-zero (c 0) (e 0) (x .first-off .bounded) (y .first-off .bounded) (λ b k f h s. x .first-off .zero-off b k f h s (λ z. z) ∙ sym (y .first-off .zero-off b k f h s (λ z. z))) (x .first ∙ sym (y .first)) i a

@@ -24,18 +24,18 @@ TermsBelow o m δ T x = (j e : ℕ) → j < m → T ≤ δ j plus e → x j e �
 module _ {M : Type 0} (o : RingOps M) (L : RingLaws o) (n m : ℕ) (w : ℕ → ℕ → ℕ → M) (δ : ℕ → ℕ) (w-bounded : (j : ℕ) → j < m → Bounded o n (suc (δ j)) (w j)) where
   open RingOps o using (zero as O, one as I, product as _⊙_, sum as _⊕_)
   open RingOps (series o) using (zero as 𝟘, product as _·_)
+
   infixl 60 _⊕_
   infixl 70 _·_
   infixl 70 _⊙_
-
   -- the top coefficient of a term
   pub term-top : (T : ℕ) (x : ℕ → ℕ → M) → TermsBelow o m δ (suc T) x → (j i : ℕ) → j < m → i < n → (x j · w j i) T ≡ x j (T - δ j) ⊙ w j i (δ j)
   term-top T x b j i l a = elim (decLe (δ j) T) [
-      yes h ↦ S.coefficient-one-term o L (x j) (w j i) T (T - δ j) (δ j) (omega arith) (λ p q e ne. other p q e ne (decLe (suc (δ j)) q))
+    | yes h ↦ S.coefficient-one-term o L (x j) (w j i) T (T - δ j) (δ j) (omega arith) (λ p q e ne. other p q e ne (decLe (suc (δ j)) q))
     | no h ↦
         S.coefficient-zero o L (x j) (w j i) T (λ p q e. ap (λ t. t ⊙ w j i q) (b j p l (omega arith)) ∙ Sums.zero-product o L (w j i q))
         ∙ sym (ap (λ t. t ⊙ w j i (δ j)) (b j (T - δ j) l (omega arith)) ∙ Sums.zero-product o L (w j i (δ j)))
-    ]
+  ]
     where
       other : (p q : ℕ) → p plus q ≡ T → (p ≡ T - δ j → ⊥) → Dec (suc (δ j) ≤ q) → x j p ⊙ w j i q ≡ O
       other p q e ne (yes h) = ap (λ t. x j p ⊙ t) (w-bounded j l i a q h) ∙ Sums.product-zero o L (x j p)
@@ -84,10 +84,10 @@ module _ {M : Type 0} (o : RingOps M) (L : RingLaws o) (n m : ℕ) (w : ℕ → 
 
 -- vectors with leading places in distinct classes
 module _ {M : Type 0} (o : RingOps M) (L : RingLaws o) (n : ℕ) (positive : zero < n) (m : ℕ) (u : ℕ → ℕ → ℕ → M) (p : ℕ → ℕ)
-  (u-below : (j : ℕ) → j < m → BelowPlace o n (suc (p j)) (u j)) (u-leading : (j : ℕ) → j < m → at n (u j) (p j) ≡ o .one) where
+    (u-below : (j : ℕ) → j < m → BelowPlace o n (suc (p j)) (u j)) (u-leading : (j : ℕ) → j < m → at n (u j) (p j) ≡ o .one) where
   open RingOps o using (zero as O, one as I, product as _⊙_)
-  infixl 70 _⊙_
 
+  infixl 70 _⊙_
   pub leading-bounded : (j : ℕ) → j < m → Bounded o n (suc (p j / n)) (u j)
   leading-bounded j l =
       let e = div-add-mod (p j) n in
@@ -118,6 +118,6 @@ module _ {M : Type 0} (o : RingOps M) (L : RingLaws o) (n : ℕ) (positive : zer
       from : (t : ℕ) → ((k : ℕ) → k < m → t ≤ p k % n → x k ≡ O) → (k : ℕ) → k < m → 0 ≤ p k % n → x k ≡ O
       from zero rest = rest
       from (suc t) rest = elim (decLt t n) [
-          yes b ↦ from t (step t b rest)
+        | yes b ↦ from t (step t b rest)
         | no b ↦ from t (λ k h e. absurd (let c = mod-lt (p k) positive in omega arith))
-        ]
+      ]

@@ -19,4 +19,6 @@ pub mod Counting
 pub mod BasicPlaces
 pub mod LeadingVectors
 pub mod Frames
+pub mod Optimal
+pub mod OptimalFrames
 pub mod Theorems

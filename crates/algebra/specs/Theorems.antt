@@ -3,8 +3,11 @@ use mathlib.Core.Path.{_≡_}
 use mathlib.Core.Logic.{_⊎_, _↔_}
 use Prim.Native.Nat.{ℕ, suc, _≤_, _<_, _+_, _-_}
 use Rattle.algebra.specs.Rings.{RingOps, RingLaws}
-use Rattle.algebra.specs.Series.{total, dot, series, shift, Below, Degree, Polynomial}
-use Rattle.algebra.specs.Divisors.{Division, Divides, Combination, MonicGcd, GcdOfRow, AllZero, DividedRow, VectorDegree, BoundedCombination}
+use Rattle.algebra.specs.Series.{sum-below, total, dot, series, shift, Below, Degree, Polynomial}
+use Rattle.algebra.specs.Divisors.{Division, Divides, Combination, MonicGcd, GcdOfRow, AllZero, DividedRow, Bounded, VectorDegree, BoundedCombination}
+use Rattle.algebra.specs.Places.{BasicPlaces}
+use Rattle.algebra.specs.Frames.{IsFrame}
+use Rattle.algebra.specs.Optimal.{DegreeOptimal}
 use Rattle.algebra.specs.Independence.{All, Solution, Spanned, Dependent, Independent}
 
 -- Series are a commutative ring; a coefficient of a product is the plain sum; s^n f has the coefficients of f, n places up.
@@ -59,3 +62,16 @@ pub record RowDividedByGcd {M : Type 0} (o : RingOps M) : Type 0 where
   pub same-syzygies : (n : ℕ) (a : ℕ → ℕ → M) (g : ℕ → M) (r : ℕ → ℕ → M) → MonicGcd o n a g → DividedRow o n a g r → (h : ℕ → ℕ → M) → ((i : ℕ) → i < n → Polynomial o (h i)) → (dot (series o) n a h ≡ series o .zero) ↔ (dot (series o) n r h ≡ series o .zero)
   pub degree : (n : ℕ) (a : ℕ → ℕ → M) (g : ℕ → M) (r : ℕ → ℕ → M) → MonicGcd o n a g → DividedRow o n a g r → (d : ℕ) × VectorDegree o n r d
   pub small-combination : (n : ℕ) (a : ℕ → ℕ → M) (g : ℕ → M) (r : ℕ → ℕ → M) (d : ℕ) → MonicGcd o n a g → DividedRow o n a g r → VectorDegree o n r d → (f : ℕ → M) → Below o (suc (d + d)) f → BoundedCombination o n (suc d) r f
+
+-- The frame of a row of m + 1 polynomials, not all zero.
+pub record OptimalFrames {M : Type 0} (o : RingOps M) : Type 0 where
+  -- the row divided by its gcd has exactly m basic places
+  pub basic-places : (m : ℕ) (a : ℕ → ℕ → M) (g : ℕ → M) (r : ℕ → ℕ → M) (d : ℕ) → MonicGcd o (suc m) a g → DividedRow o (suc m) a g r → VectorDegree o (suc m) r d → (p : ℕ → ℕ) × BasicPlaces o (suc m) d r m p
+  -- the frame exists and is the only one
+  pub exists : (m : ℕ) (a : ℕ → ℕ → M) → ((i : ℕ) → i < suc m → Polynomial o (a i)) → (AllZero o (suc m) a → ⊥) → (g : ℕ → M) × (d : ℕ) × (c : ℕ → ℕ → ℕ → M) × IsFrame o m a g d c
+  pub unique : (m : ℕ) (a : ℕ → ℕ → M) (g h : ℕ → M) (d e : ℕ) (c b : ℕ → ℕ → ℕ → M) → IsFrame o m a g d c → IsFrame o m a h e b → (g ≡ h) × (d ≡ e) × ((j i : ℕ) → j < suc m → i < suc m → c j i ≡ b j i)
+  -- it is degree-optimal
+  pub optimal : (m : ℕ) (a : ℕ → ℕ → M) (g : ℕ → M) (d : ℕ) (c : ℕ → ℕ → ℕ → M) → IsFrame o m a g d c → DegreeOptimal o m a g c
+  -- the degrees of its check columns add up to d, and that of column 0 is at most d
+  pub check-degrees : (m : ℕ) (a : ℕ → ℕ → M) (g : ℕ → M) (d : ℕ) (c : ℕ → ℕ → ℕ → M) → IsFrame o m a g d c → (k : ℕ → ℕ) × ((j : ℕ) → j < m → VectorDegree o (suc m) (c (suc j)) (k j)) × (sum-below m k ≡ d)
+  pub first-degree : (m : ℕ) (a : ℕ → ℕ → M) (g : ℕ → M) (d : ℕ) (c : ℕ → ℕ → ℕ → M) → IsFrame o m a g d c → Bounded o (suc m) (suc d) (c 0)
