@@ -143,7 +143,7 @@ module _ {M : Type 0} (o : RingOps M) (F : IsField o) (m d : ℕ) (r : ℕ → �
           not-before (yes a) = absurd (g .earlier (Q / n) a (subst (NonPivotal o n d r) (sym (div-add-mod Q n)) (Syzygies.nonpivotal-of-syzygy o F n positive d r (v .bounded) Q syzygy)))
 
   -- every syzygy is a sum of polynomial multiples of the check columns
-  generated : (h : ℕ → ℕ → M) → PolynomialVector o n h → Syzygy o n r h → (x : ℕ → ℕ → M) × ((j : ℕ) → j < m → Polynomial o (x j)) × ((i : ℕ) → i < n → h i ≡ total (series o) m (λ j. x j · u j i))
+  pub generated : (h : ℕ → ℕ → M) → PolynomialVector o n h → Syzygy o n r h → (x : ℕ → ℕ → M) × ((j : ℕ) → j < m → Polynomial o (x j)) × ((i : ℕ) → i < n → h i ≡ total (series o) m (λ j. x j · u j i))
   generated h q s =
       let N = B.common-bound o L n h q in
       let reduced = Reduction.reduce o F n positive m u p u-below u-leading (Syzygy o n r) step 0 cover (n * N .0) h s (Places.below-place-of-bounded n positive o (N .0) h (N .1)) in
@@ -160,26 +160,7 @@ module _ {M : Type 0} (o : RingOps M) (F : IsField o) (m d : ℕ) (r : ℕ → �
   terms-below N x h q e b = Leading.predictable o L n m u k u-bounded leading-independent N x q (λ i a. subst (Below o N) (e i a) (b i a))
 
   pub exactly-one-sum : (h : ℕ → ℕ → M) → PolynomialVector o n h → Syzygy o n r h → ExactlyOneSum o n m u h
-  exactly-one-sum h q s =
-      let x = generated h q s in
-      record {
-        factor = x .0;
-        polynomials = x .1;
-        is = x .2;
-        no-higher = λ j l N b. Leading.term-bounded o L n m u k u-bounded N (x .0) (terms-below N (x .0) h (x .1) (x .2) b) j l;
-        unique = λ y b e j l. same (x .0) y (x .1) b (x .2) e j l;
-      }
-    where
-      same : (x y : ℕ → ℕ → M) → ((j : ℕ) → j < m → Polynomial o (x j)) → ((j : ℕ) → j < m → Polynomial o (y j)) → ((i : ℕ) → i < n → h i ≡ total (series o) m (λ j. x j · u j i)) → ((i : ℕ) → i < n → h i ≡ total (series o) m (λ j. y j · u j i)) → (j : ℕ) → j < m → y j ≡ x j
-      same x y a b e g j l =
-          Sums.equal-of-difference (series o) SL (y j) (x j)
-          (Leading.independent-over-polynomials o L n m u k u-bounded leading-independent (λ t. y t + (- x t)) (λ t w. B.polynomial-sum o L (y t) (- x t) (b t w) (B.polynomial-negative o L (x t) (a t w)))
-          (λ i w.
-          Sums.total-ext (series o) SL m (λ t. (y t + (- x t)) · u t i) (λ t. y t · u t i + (- (x t · u t i))) (λ t z. Sums.sum-product (series o) SL (y t) (- x t) (u t i) ∙ ap (λ z. y t · u t i + z) (Sums.negative-product (series o) SL (x t) (u t i)))
-          ∙ Sums.total-sum (series o) SL m (λ t. y t · u t i) (λ t. - (x t · u t i))
-          ∙ ap₂ _+_ (sym (g i w)) (Sums.total-negative (series o) SL m (λ t. x t · u t i) ∙ ap -_ (sym (e i w)))
-          ∙ SL .sum-negative (h i))
-          j l)
+  exactly-one-sum h q s = let x = generated h q s in Leading.exactly-one-sum o L n m u k u-bounded leading-independent h (x .0) (x .1) (x .2)
 
   -- m independent syzygies in order of degree have at least the degrees of the check columns
   pub least-degrees : (w : ℕ → ℕ → ℕ → M) → OrderedSyzygies o n m r w → (j : ℕ) → j < m → DegreeAtMost o n (u j) (w j)

@@ -6,3 +6,4 @@ pub mod Theorems
 pub mod Places
 pub mod Frames
 pub mod Optimal
+pub mod DegreeTest
