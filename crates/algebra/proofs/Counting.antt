@@ -79,6 +79,19 @@ sum-single zero t f h e = absurd (not-suc-le-zero h)
 sum-single (suc K) zero f h e = ap (λ s. f 0 + s) (sum-none K (λ k. f (suc k)) (λ k l. e (suc k) (suc-le-suc l) (λ z. omega arith))) ∙ add-zero (f 0)
 sum-single (suc K) (suc t) f h e = ap₂ _+_ (e 0 (suc-le-suc zero-le) (λ z. omega arith)) (sum-single K t (λ k. f (suc k)) (le-of-suc-le-suc h) (λ k l n. e (suc k) (suc-le-suc l) (λ z. n (omega arith)))) ∙ zero-add (f (suc t))
 
+pub sum-le : (n : ℕ) (f g : ℕ → ℕ) → ((k : ℕ) → k < n → f k ≤ g k) → sum-below n f ≤ sum-below n g
+sum-le zero f g h = zero-le
+sum-le (suc n) f g h = let a = h 0 (suc-le-suc zero-le) in let b = sum-le n (λ k. f (suc k)) (λ k. g (suc k)) (λ k l. h (suc k) (suc-le-suc l)) in omega arith
+
+-- terms no greater, with the same sum, are the same
+pub sum-le-same : (n : ℕ) (f g : ℕ → ℕ) → ((k : ℕ) → k < n → f k ≤ g k) → sum-below n f ≡ sum-below n g → (k : ℕ) → k < n → f k ≡ g k
+sum-le-same zero f g h e k l = absurd (not-suc-le-zero l)
+sum-le-same (suc n) f g h e zero l = let a = h 0 (suc-le-suc zero-le) in let b = sum-le n (λ k. f (suc k)) (λ k. g (suc k)) (λ k c. h (suc k) (suc-le-suc c)) in omega arith
+sum-le-same (suc n) f g h e (suc k) l =
+    let a = h 0 (suc-le-suc zero-le) in
+    let b = sum-le n (λ j. f (suc j)) (λ j. g (suc j)) (λ j c. h (suc j) (suc-le-suc c)) in
+    sum-le-same n (λ j. f (suc j)) (λ j. g (suc j)) (λ j c. h (suc j) (suc-le-suc c)) (omega arith) k (le-of-suc-le-suc l)
+
 -- the numbers below N with a property, in rising order
 pub record Enumerated (N : ℕ) (Q : ℕ → Type 0) (dec : (q : ℕ) → Dec (Q q)) : Type 0 where
   pub count : ℕ

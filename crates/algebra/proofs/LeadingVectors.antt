@@ -96,14 +96,14 @@ module _ {M : Type 0} (o : RingOps M) (L : RingLaws o) (n m : ℕ) (w : ℕ → 
       is = e;
       no-higher = λ j l N b. term-bounded N x (predictable N x q (λ i a. subst (Below o N) (e i a) (b i a))) j l;
       unique = λ y b g j l.
-        Sums.equal-of-difference (series o) SL (y j) (x j)
+          Sums.equal-of-difference (series o) SL (y j) (x j)
           (independent-over-polynomials (λ t. y t + (- x t)) (λ t c. B.polynomial-sum o L (y t) (- x t) (b t c) (B.polynomial-negative o L (x t) (q t c)))
-            (λ i c.
-              Sums.total-ext (series o) SL m (λ t. (y t + (- x t)) · w t i) (λ t. y t · w t i + (- (x t · w t i))) (λ t z. Sums.sum-product (series o) SL (y t) (- x t) (w t i) ∙ ap (λ z. y t · w t i + z) (Sums.negative-product (series o) SL (x t) (w t i)))
-              ∙ Sums.total-sum (series o) SL m (λ t. y t · w t i) (λ t. - (x t · w t i))
-              ∙ ap₂ _+_ (sym (g i c)) (Sums.total-negative (series o) SL m (λ t. x t · w t i) ∙ ap -_ (sym (e i c)))
-              ∙ SL .sum-negative (h i))
-            j l);
+          (λ i c.
+          Sums.total-ext (series o) SL m (λ t. (y t + (- x t)) · w t i) (λ t. y t · w t i + (- (x t · w t i))) (λ t z. Sums.sum-product (series o) SL (y t) (- x t) (w t i) ∙ ap (λ z. y t · w t i + z) (Sums.negative-product (series o) SL (x t) (w t i)))
+          ∙ Sums.total-sum (series o) SL m (λ t. y t · w t i) (λ t. - (x t · w t i))
+          ∙ ap₂ _+_ (sym (g i c)) (Sums.total-negative (series o) SL m (λ t. x t · w t i) ∙ ap -_ (sym (e i c)))
+          ∙ SL .sum-negative (h i))
+          j l);
     }
 
   -- the multipliers y_j s^(N - δ_j), where y_j is zero at the vectors of higher degree than N
@@ -118,9 +118,9 @@ module _ {M : Type 0} (o : RingOps M) (L : RingLaws o) (n m : ℕ) (w : ℕ → 
 
   pub lifted-below : (N : ℕ) (y : ℕ → M) → ((j : ℕ) → j < m → N < δ j → y j ≡ O) → TermsBelow o m δ (suc N) (lifted N y)
   lifted-below N y z j e l h = elim (decLt N (δ j)) [
-      yes a ↦ ap (λ t. shift o (N - δ j) (constant o t) e) (z j l a) ∙ vanish (N - δ j) e
+    | yes a ↦ ap (λ t. shift o (N - δ j) (constant o t) e) (z j l a) ∙ vanish (N - δ j) e
     | no a ↦ let t = e - suc (N - δ j) in S.shift-at o L (N - δ j) e (suc t) (constant o (y j)) (omega arith)
-    ]
+  ]
     where
       zero-constant : (k : ℕ) → constant o O k ≡ O
       zero-constant zero = refl

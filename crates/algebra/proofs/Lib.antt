@@ -21,4 +21,5 @@ pub mod LeadingVectors
 pub mod Frames
 pub mod Optimal
 pub mod OptimalFrames
+pub mod TestPassed
 pub mod Theorems

@@ -186,6 +186,20 @@ module _ {M : Type 0} (o : RingOps M) (F : IsField o) (m d : ℕ) (r : ℕ → �
             | no g ↦ (let x = ap k (let same : j ≡ q = omega arith in same) in omega arith)
           ]
 
+  -- the coefficients of a syzygy at its top power are a combination of the leading vectors of the check columns of no higher degree
+  pub top-spanned : (N t : ℕ) → t ≤ m → ((l : ℕ) → t ≤ l → l < m → N < k l) → (h : ℕ → ℕ → M) → PolynomialVector o n h → Syzygy o n r h → Bounded o n (suc N) h → Spanned o All t n (λ l i. u l i (k l)) (λ i. h i N)
+  top-spanned N t a high h q s b =
+      let x = generated h q s in
+      let small = terms-below (suc N) (x .0) h (x .1) (x .2) b in
+      record {
+        factor = λ l. x .0 l (N - k l);
+        inside = λ l e. tt;
+        is = λ i e.
+            ap (λ (g : ℕ → M). g N) (x .2 i e)
+            ∙ Leading.sum-top o L n m u k u-bounded N (x .0) small i e
+            ∙ Spans.total-truncate o L t m (λ l. x .0 l (N - k l) ⊙ u l i (k l)) a (λ l y z. ap (λ g. g ⊙ u l i (k l)) (small l (N - k l) z (let w = high l y z in omega arith)) ∙ Sums.zero-product o L (u l i (k l)));
+      }
+
   -- column 0 has least degree
   pub first-least : (h : ℕ → ℕ → M) → dot (series o) n r h ≡ 𝟙 → DegreeAtMost o n (c 0) h
   first-least h e N b = elim (decLe (suc d) N) [
