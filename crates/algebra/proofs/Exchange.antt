@@ -6,6 +6,7 @@ use mathlib.Core.Logic.{_⊎_, inl, inr}
 use mathlib.Core.List.{[], _∷_}
 use Prim.Native.Nat.{ℕ, zero, suc, _≤_, _<_, zero-le, suc-le-suc}
 use native.Mathlib.Nat.{le-of-suc-le-suc, not-suc-le-zero, le-refl}
+use native.Mathlib.Decide.{ℕ-discrete}
 use native.Mathlib.Omega.{arith}
 use Rattle.algebra.specs.Rings.{RingOps, RingLaws, IsField}
 use Rattle.algebra.specs.Series.{total, dot, series, Polynomial}
@@ -40,6 +41,14 @@ pub skip-ne : (p j : ℕ) → skip p j ≡ p → ⊥
 skip-ne zero j e = omega arith
 skip-ne (suc p) zero e = omega arith
 skip-ne (suc p) (suc j) e = skip-ne p j (omega arith)
+
+-- every number but p is skipped to
+pub unskip : (q p j : ℕ) → p < suc q → j < suc q → (j ≡ p → ⊥) → (i : ℕ) × (i < q) × (skip p i ≡ j)
+unskip q zero zero b h n = absurd (n refl)
+unskip q zero (suc j) b h n = (j, le-of-suc-le-suc h, refl)
+unskip zero (suc p) j b h n = absurd (not-suc-le-zero (le-of-suc-le-suc b))
+unskip (suc q) (suc p) zero b h n = (0, suc-le-suc zero-le, refl)
+unskip (suc q) (suc p) (suc j) b h n = let x = unskip q p j (le-of-suc-le-suc b) (le-of-suc-le-suc h) (λ e. n (ap suc e)) in (suc (x .0), suc-le-suc (x .1), ap suc (x .2))
 
 pub slot-at : {R : Type 0} (p : ℕ) (v : R) (y : ℕ → R) → slot p v y p ≡ v
 slot-at zero v y = refl
@@ -191,6 +200,32 @@ module _ {R : Type 0} (o : RingOps R) (L : RingLaws o) where
             (λ i j l k. D .sum-in (A 0 p · A (suc i) (skip p j)) (- (A (suc i) p · A 0 (skip p j)))
             (D .product-in (A 0 p) (A (suc i) (skip p j)) (a 0 p (suc-le-suc zero-le) (r .within)) (a (suc i) (skip p j) (suc-le-suc l) (skip-lt p q j k)))
             (D .negative-in (A (suc i) p · A 0 (skip p j)) (D .product-in (A (suc i) p) (A 0 (skip p j)) (a (suc i) p (suc-le-suc l) (r .within)) (a 0 (skip p j) (suc-le-suc zero-le) (skip-lt p q j k))))))
+
+    -- a square matrix that sends y, not zero at p, to zero has rows that are dependent
+    pub left-kernel : (q p : ℕ) (X : ℕ → ℕ → R) (y : ℕ → R) → p < suc q → ((l j : ℕ) → l < suc q → j < suc q → P (X l j)) → P (y p) → (y p ≡ O → ⊥) → ((l : ℕ) → l < suc q → total o (suc q) (λ j. X l j · y j) ≡ O) → Solution o P (suc q) (suc q) (λ j l. X l j)
+    left-kernel q p X y h inside py ne zeros = done (exchange q (suc q) (λ i l. X l (skip p i)) (le-refl (suc q)) (λ i l a b. inside l (skip p i) b (skip-lt p q i a)))
+      where
+        done : Solution o P q (suc q) (λ i l. X l (skip p i)) → Solution o P (suc q) (suc q) (λ j l. X l j)
+        done s = record { unknown = s .unknown; inside = s .inside; not-all-zero = s .not-all-zero; solves = λ j b. at j b (ℕ-discrete j p) }
+          where
+            C : ℕ → R
+            C = s .unknown
+
+            all : total o (suc q) (λ j. dot o (suc q) (λ l. X l j) C · y j) ≡ O
+            all =
+                sym (total-compose (suc q) (suc q) C X y)
+                ∙ Sums.total-zero o L (suc q) (λ l. C l · total o (suc q) (λ j. X l j · y j)) (λ l b. ap (λ t. C l · t) (zeros l b) ∙ Sums.product-zero o L (C l))
+
+            at-p : dot o (suc q) (λ l. X l p) C · y p ≡ O
+            at-p =
+                sym (L .sum-zero (dot o (suc q) (λ l. X l p) C · y p))
+                ∙ ap (λ t. dot o (suc q) (λ l. X l p) C · y p + t) (sym (Sums.total-zero o L q (λ i. dot o (suc q) (λ l. X l (skip p i)) C · y (skip p i)) (λ i b. ap (λ t. t · y (skip p i)) (s .solves i b) ∙ Sums.zero-product o L (y (skip p i)))))
+                ∙ sym (total-skip q p (λ j. dot o (suc q) (λ l. X l j) C · y j) h)
+                ∙ all
+
+            at : (j : ℕ) → j < suc q → Dec (j ≡ p) → dot o (suc q) (λ l. X l j) C ≡ O
+            at j b (yes e) = ap (λ t. dot o (suc q) (λ l. X l t) C) e ∙ D .zero-of-product (y p) (dot o (suc q) (λ l. X l p) C) py (total-in (suc q) (λ l. X l p · C l) (λ l a. D .product-in (X l p) (C l) (inside l p a h) (s .inside l a))) ne (L .product-comm (y p) (dot o (suc q) (λ l. X l p) C) ∙ at-p)
+            at j b (no n) = let i = unskip q p j h b n in ap (λ t. dot o (suc q) (λ l. X l t) C) (sym (i .2)) ∙ s .solves (i .0) (i .1)
 
     -- the factors by which each of q vectors is spanned, as one matrix
     factors : (t q w : ℕ) (u v : ℕ → ℕ → R) → ((j : ℕ) → j < q → Spanned o P t w u (v j)) → (c : ℕ → ℕ → R) × ((j : ℕ) → j < q → record { inside : (l : ℕ) → l < t → P (c j l); is : (k : ℕ) → k < w → v j k ≡ total o t (λ l. c j l · u l k) })

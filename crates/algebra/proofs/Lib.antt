@@ -22,4 +22,6 @@ pub mod Frames
 pub mod Optimal
 pub mod OptimalFrames
 pub mod TestPassed
+pub mod TestExact
+pub mod Link
 pub mod Theorems

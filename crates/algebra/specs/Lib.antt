@@ -7,3 +7,4 @@ pub mod Places
 pub mod Frames
 pub mod Optimal
 pub mod DegreeTest
+pub mod Link

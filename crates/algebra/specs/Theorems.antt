@@ -7,7 +7,9 @@ use Rattle.algebra.specs.Series.{sum-below, total, dot, series, shift, Below, 
 use Rattle.algebra.specs.Divisors.{Division, Divides, Combination, MonicGcd, GcdOfRow, AllZero, DividedRow, Bounded, VectorDegree, BoundedCombination}
 use Rattle.algebra.specs.Places.{BasicPlaces}
 use Rattle.algebra.specs.Frames.{IsFrame}
-use Rattle.algebra.specs.Optimal.{DegreeOptimal}
+use Rattle.algebra.specs.Optimal.{PolynomialVector, DegreeOptimal}
+use Rattle.algebra.specs.DegreeTest.{PassesTest}
+use Rattle.algebra.specs.Link.{Encodes, Clean, inverted, OneChanged, DifferAtMost}
 use Rattle.algebra.specs.Independence.{All, Solution, Spanned, Dependent, Independent}
 
 -- Series are a commutative ring; a coefficient of a product is the plain sum; s^n f has the coefficients of f, n places up.
@@ -75,3 +77,18 @@ pub record OptimalFrames {M : Type 0} (o : RingOps M) : Type 0 where
   -- the degrees of its check columns add up to d, and that of column 0 is at most d
   pub check-degrees : (m : ℕ) (a : ℕ → ℕ → M) (g : ℕ → M) (d : ℕ) (c : ℕ → ℕ → ℕ → M) → IsFrame o m a g d c → (k : ℕ → ℕ) × ((j : ℕ) → j < m → VectorDegree o (suc m) (c (suc j)) (k j)) × (sum-below m k ≡ d)
   pub first-degree : (m : ℕ) (a : ℕ → ℕ → M) (g : ℕ → M) (d : ℕ) (c : ℕ → ℕ → ℕ → M) → IsFrame o m a g d c → Bounded o (suc m) (suc d) (c 0)
+
+-- Columns of polynomials pass the test by degrees exactly when they are degree-optimal.
+pub record TestByDegrees {M : Type 0} (o : RingOps M) : Type 0 where
+  pub exact : (m : ℕ) (a : ℕ → ℕ → M) (g : ℕ → M) (r : ℕ → ℕ → M) (d : ℕ) (c : ℕ → ℕ → ℕ → M) → MonicGcd o (suc m) a g → DividedRow o (suc m) a g r → VectorDegree o (suc m) r d → ((j : ℕ) → j < suc m → PolynomialVector o (suc m) (c j)) → PassesTest o m a g d c ↔ DegreeOptimal o m a g c
+
+-- The link over degree-optimal columns with divisor 1, for a row a of degree d.
+pub record CleanLink {M : Type 0} (o : RingOps M) : Type 0 where
+  -- a block of L + d times is clean exactly when it encodes a message of L symbols
+  pub clean : (m : ℕ) (a : ℕ → ℕ → M) (d : ℕ) (c : ℕ → ℕ → ℕ → M) → VectorDegree o (suc m) a d → ((j : ℕ) → j < suc m → PolynomialVector o (suc m) (c j)) → DegreeOptimal o m a (series o .one) c → (L : ℕ) (v : ℕ → ℕ → M) → Bounded o (suc m) (L + d) v → Clean o m c v ↔ ((message : ℕ → M) × Encodes o (suc m) a L message v)
+  -- and inverting gives that message
+  pub inverts : (m : ℕ) (a : ℕ → ℕ → M) (c : ℕ → ℕ → ℕ → M) → DegreeOptimal o m a (series o .one) c → (L : ℕ) (message : ℕ → M) (v : ℕ → ℕ → M) → Encodes o (suc m) a L message v → inverted o m c v ≡ message
+  -- an encoded block has L + d times
+  pub encoded-length : (m : ℕ) (a : ℕ → ℕ → M) (d : ℕ) → VectorDegree o (suc m) a d → (L : ℕ) (message : ℕ → M) (v : ℕ → ℕ → M) → Encodes o (suc m) a L message v → Bounded o (suc m) (L + d) v
+  -- one changed symbol changes at most (degree of column 0) + 1 symbols of what inverting gives
+  pub one-changed : (m : ℕ) (c : ℕ → ℕ → ℕ → M) (e : ℕ) → VectorDegree o (suc m) (c 0) e → (i t : ℕ) (v w : ℕ → ℕ → M) → i < suc m → OneChanged (suc m) i t v w → DifferAtMost (suc e) (inverted o m c v) (inverted o m c w)
