@@ -83,6 +83,12 @@ pub sum-le : (n : ℕ) (f g : ℕ → ℕ) → ((k : ℕ) → k < n → f k ≤ 
 sum-le zero f g h = zero-le
 sum-le (suc n) f g h = let a = h 0 (suc-le-suc zero-le) in let b = sum-le n (λ k. f (suc k)) (λ k. g (suc k)) (λ k l. h (suc k) (suc-le-suc l)) in omega arith
 
+-- a term is at most the sum
+pub sum-member : (n : ℕ) (f : ℕ → ℕ) (k : ℕ) → k < n → f k ≤ sum-below n f
+sum-member zero f k l = absurd (not-suc-le-zero l)
+sum-member (suc n) f zero l = omega arith
+sum-member (suc n) f (suc k) l = let h = sum-member n (λ j. f (suc j)) k (le-of-suc-le-suc l) in omega arith
+
 -- terms no greater, with the same sum, are the same
 pub sum-le-same : (n : ℕ) (f g : ℕ → ℕ) → ((k : ℕ) → k < n → f k ≤ g k) → sum-below n f ≡ sum-below n g → (k : ℕ) → k < n → f k ≡ g k
 sum-le-same zero f g h e k l = absurd (not-suc-le-zero l)

@@ -24,4 +24,5 @@ pub mod OptimalFrames
 pub mod TestPassed
 pub mod TestExact
 pub mod Link
+pub mod Certificates
 pub mod Theorems
