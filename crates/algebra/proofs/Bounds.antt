@@ -106,6 +106,7 @@ module _ {M : Type 0} (o : RingOps M) (L : RingLaws o) where
       let N = max (first .0) (rest .0) in
       (N, go first rest)
     where
-      go : (first : Polynomial o (f 0)) (rest : (N : ℕ) × ((i : ℕ) → i < n → Below o N (f (suc i)))) → (i : ℕ) → i < suc n → Below o (max (first .0) (rest .0)) (f i)
+      go : (first : Polynomial o (f 0)) (rest : (N : ℕ) × ((i : ℕ) → i < n → Below o N (f (suc i)))) → (i : ℕ)
+          → i < suc n → Below o (max (first .0) (rest .0)) (f i)
       go first rest zero h = below-mono (first .0) (max (first .0) (rest .0)) (f 0) (le-max-left (first .0) (rest .0)) (first .1)
       go first rest (suc i) h = below-mono (rest .0) (max (first .0) (rest .0)) (f (suc i)) (le-max-right (first .0) (rest .0)) (rest .1 i (omega arith))

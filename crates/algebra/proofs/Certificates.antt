@@ -48,7 +48,8 @@ module _ {M : Type 0} (o : RingOps M) (F : IsField o) (n : ℕ) (positive : zero
   same-class j l e a b c q = distinct j l b c (sym (add-mul-mod-self-left (p j) n e) ∙ ap (λ t. t % n) q ∙ add-mul-mod-self-left (p l) n a)
 
   -- a product of coefficients at a place T that no term exceeds vanishes, but for the leading ones
-  term : (T : ℕ) (x : ℕ → ℕ → M) → PlacesBelow (suc T) x → (l i k a b : ℕ) → l < m → i < n → n * k plus i ≡ T → a plus b ≡ k → (p l plus n * a ≡ T → ⊥) → x l a ⊙ w l i b ≡ O
+  term : (T : ℕ) (x : ℕ → ℕ → M) → PlacesBelow (suc T) x → (l i k a b : ℕ) → l < m → i < n → n * k plus i ≡ T
+      → a plus b ≡ k → (p l plus n * a ≡ T → ⊥) → x l a ⊙ w l i b ≡ O
   term T x z l i k a b c h q s ne = go (decLe (suc T) (p l plus n * a))
     where
       places : n * k ≡ n * a plus n * b
@@ -61,10 +62,12 @@ module _ {M : Type 0} (o : RingOps M) (F : IsField o) (n : ℕ) (positive : zero
           above : suc (p l) ≤ n * b plus i
           above = elim (decLe (suc (p l)) (n * b plus i)) [ yes g ↦ g | no g ↦ absurd (ne (let e = places in omega arith)) ]
 
-  no-term : (T : ℕ) (x : ℕ → ℕ → M) → PlacesBelow (suc T) x → (l i k : ℕ) → l < m → i < n → n * k plus i ≡ T → ((a : ℕ) → p l plus n * a ≡ T → ⊥) → (x l · w l i) k ≡ O
+  no-term : (T : ℕ) (x : ℕ → ℕ → M) → PlacesBelow (suc T) x → (l i k : ℕ) → l < m → i < n → n * k plus i ≡ T
+      → ((a : ℕ) → p l plus n * a ≡ T → ⊥) → (x l · w l i) k ≡ O
   no-term T x z l i k c h q ne = S.coefficient-zero o L (x l) (w l i) k (λ a b s. term T x z l i k a b c h q s (ne a))
 
-  one-term : (T : ℕ) (x : ℕ → ℕ → M) → PlacesBelow (suc T) x → (j e i k : ℕ) → j < m → i < n → n * k plus i ≡ T → p j plus n * e ≡ T → (x j · w j i) k ≡ x j e
+  one-term : (T : ℕ) (x : ℕ → ℕ → M) → PlacesBelow (suc T) x → (j e i k : ℕ) → j < m → i < n → n * k plus i ≡ T
+      → p j plus n * e ≡ T → (x j · w j i) k ≡ x j e
   one-term T x z j e i k c h q s =
       let le : e ≤ k = Reduction.power-le o F n positive e k i h (omega arith) in
       let b = k - e in
@@ -95,7 +98,8 @@ module _ {M : Type 0} (o : RingOps M) (F : IsField o) (n : ℕ) (positive : zero
     descend (suc t) Q b z = descend t Q b (down (Q plus t) (λ j a c l. z j a c (omega arith)) (Places.below-place-at n positive o Q h b (Q plus t) (omega arith)))
 
     -- the leading place of a sum of multiples is the leading place of a vector, shifted
-    pub leading-place-of-sum : ((j : ℕ) → j < m → Polynomial o (x j)) → (q : ℕ) → BelowPlace o n (suc q) h → (at n h q ≡ O → ⊥) → (j : ℕ) × (j < m) × (e : ℕ) × (q ≡ p j plus n * e)
+    pub leading-place-of-sum : ((j : ℕ) → j < m → Polynomial o (x j)) → (q : ℕ) → BelowPlace o n (suc q) h
+        → (at n h q ≡ O → ⊥) → (j : ℕ) × (j < m) × (e : ℕ) × (q ≡ p j plus n * e)
     leading-place-of-sum polynomials q b ne = go (Naturals.all-or-not m (λ j. (e : ℕ) → p j plus n * e ≡ q → ⊥) (λ j. (e : ℕ) × (q ≡ p j plus n * e)) (λ j c. decide j (decLe (p j) q) (ℕ-discrete (p j % n) (q % n))))
       where
         decide : (j : ℕ) → Dec (p j ≤ q) → Dec (p j % n ≡ q % n) → ((e : ℕ) → p j plus n * e ≡ q → ⊥) ⊎ ((e : ℕ) × (q ≡ p j plus n * e))
@@ -119,7 +123,8 @@ module _ {M : Type 0} (o : RingOps M) (F : IsField o) (n : ℕ) (positive : zero
             large : (a : ℕ) → n * bounds .0 ≤ n * a → bounds .0 ≤ a
             large a l = Reduction.power-le o F n positive (bounds .0) a 0 positive (omega arith)
 
-        go : ((j : ℕ) → j < m → (e : ℕ) → p j plus n * e ≡ q → ⊥) ⊎ ((j : ℕ) × (j < m) × ((e : ℕ) × (q ≡ p j plus n * e))) → (j : ℕ) × (j < m) × (e : ℕ) × (q ≡ p j plus n * e)
+        go : ((j : ℕ) → j < m → (e : ℕ) → p j plus n * e ≡ q → ⊥) ⊎ ((j : ℕ) × (j < m) × ((e : ℕ) × (q ≡ p j plus n * e)))
+            → (j : ℕ) × (j < m) × (e : ℕ) × (q ≡ p j plus n * e)
         go (inr (j, c, e)) = (j, c, e .0, e .1)
         go (inl none) = absurd (ne (at-sum q ∙ Sums.total-zero o L m (λ j. (x j · w j (q % n)) (q / n)) (λ j c. no-term q x below j (q % n) (q / n) c (mod-lt q positive) (div-add-mod q n) (none j c))))
 
@@ -137,7 +142,8 @@ pub record FrameCertificate {M : Type 0} (o : RingOps M) (m : ℕ) (a : ℕ → 
   pub distinct : (i j : ℕ) → i < m → j < m → p i % suc m ≡ p j % suc m → i ≡ j
   pub powers-sum : sum-below m (λ j. p j / suc m) ≡ d
   pub first-off : (l e i k : ℕ) → l < m → i < suc m → k < suc d → suc m * k plus i ≡ p l plus suc m * e → c 0 i k ≡ o .zero
-  pub check-off : (j l e i k : ℕ) → j < m → l < m → i < suc m → k < suc d → suc m * k plus i ≡ p l plus suc m * e → (suc m * k plus i ≡ p j → ⊥) → c (suc j) i k ≡ o .zero
+  pub check-off : (j l e i k : ℕ) → j < m → l < m → i < suc m → k < suc d → suc m * k plus i ≡ p l plus suc m * e
+      → (suc m * k plus i ≡ p j → ⊥) → c (suc j) i k ≡ o .zero
 
 module _ {M : Type 0} (o : RingOps M) (F : IsField o) (m : ℕ) (a : ℕ → ℕ → M) (g : ℕ → M) (d : ℕ) (c : ℕ → ℕ → ℕ → M) (r : ℕ → ℕ → M) (p : ℕ → ℕ) (x : FrameCertificate o m a g d c r p) where
   abbrev n : ℕ

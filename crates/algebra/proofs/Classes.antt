@@ -63,7 +63,8 @@ module _ {M : Type 0} (o : RingOps M) (F : IsField o) (n : ℕ) (positive : zero
   search-class : (i : ℕ) → FirstNonPivotal o n d r i ⊎ ((k : ℕ) → k < suc d → NonPivotal o n d r (n * k plus i) → ⊥)
   search-class i = go (N.first-below (suc d) (λ k. NonPivotal o n d r (n * k plus i)) (λ k. nonpivotal-decides (n * k plus i)))
     where
-      go : ((k : ℕ) → k < suc d → NonPivotal o n d r (n * k plus i) → ⊥) ⊎ ((k : ℕ) × (k < suc d) × NonPivotal o n d r (n * k plus i) × ((l : ℕ) → l < k → NonPivotal o n d r (n * l plus i) → ⊥)) → FirstNonPivotal o n d r i ⊎ ((k : ℕ) → k < suc d → NonPivotal o n d r (n * k plus i) → ⊥)
+      go : ((k : ℕ) → k < suc d → NonPivotal o n d r (n * k plus i) → ⊥) ⊎ ((k : ℕ) × (k < suc d) × NonPivotal o n d r (n * k plus i) × ((l : ℕ) → l < k → NonPivotal o n d r (n * l plus i) → ⊥))
+          → FirstNonPivotal o n d r i ⊎ ((k : ℕ) → k < suc d → NonPivotal o n d r (n * k plus i) → ⊥)
       go (inl none) = inr none
       go (inr (k, l, s, e)) = inl (record { power = k; within = l; non-pivotal = s; earlier = e })
 
@@ -73,17 +74,21 @@ module _ {M : Type 0} (o : RingOps M) (F : IsField o) (n : ℕ) (positive : zero
   pub classes : Classes o n d r
   classes = go (N.all-or-not n (FirstNonPivotal o n d r) (λ i. (k : ℕ) → k < suc d → NonPivotal o n d r (n * k plus i) → ⊥) (λ i a. search-class i))
     where
-      go : ((i : ℕ) → i < n → FirstNonPivotal o n d r i) ⊎ ((i : ℕ) × (i < n) × ((k : ℕ) → k < suc d → NonPivotal o n d r (n * k plus i) → ⊥)) → Classes o n d r
+      go : ((i : ℕ) → i < n → FirstNonPivotal o n d r i) ⊎ ((i : ℕ) × (i < n) × ((k : ℕ) → k < suc d → NonPivotal o n d r (n * k plus i) → ⊥))
+          → Classes o n d r
       go (inl all) = absurd (Syzygies.not-every-class o F n positive d r (v .bounded) v (λ i a. first-syzygy i a (all i a)))
       go (inr (free, within, none)) = record { free = free; free-within = within; free-none = free-none; first = first }
         where
-          not-here : (i : ℕ) → ((k : ℕ) → k < suc d → NonPivotal o n d r (n * k plus i) → ⊥) → (q : ℕ) → q < n * suc d → SyzygyAt o n r q → q % n ≡ i → ⊥
+          not-here : (i : ℕ) → ((k : ℕ) → k < suc d → NonPivotal o n d r (n * k plus i) → ⊥) → (q : ℕ) → q < n * suc d
+              → SyzygyAt o n r q → q % n ≡ i → ⊥
           not-here i x q l s e = x (q / n) (power-within q l) (subst (λ t. NonPivotal o n d r (n * (q / n) plus t)) e (nonpivotal-place q (Syzygies.nonpivotal-of-syzygy o F n positive d r (v .bounded) q s)))
 
           first : (i : ℕ) → i < n → (i ≡ free → ⊥) → FirstNonPivotal o n d r i
           first i a ne = pick (search-class i) (Syzygies.one-of-two-classes o F n positive d r (v .bounded) i free a within ne)
             where
-              pick : FirstNonPivotal o n d r i ⊎ ((k : ℕ) → k < suc d → NonPivotal o n d r (n * k plus i) → ⊥) → (q : ℕ) × (q < n * suc d) × SyzygyAt o n r q × ((q % n ≡ i) ⊎ (q % n ≡ free)) → FirstNonPivotal o n d r i
+              pick : FirstNonPivotal o n d r i ⊎ ((k : ℕ) → k < suc d → NonPivotal o n d r (n * k plus i) → ⊥)
+                  → (q : ℕ) × (q < n * suc d) × SyzygyAt o n r q × ((q % n ≡ i) ⊎ (q % n ≡ free))
+                  → FirstNonPivotal o n d r i
               pick (inl f) s = f
               pick (inr x) (q, l, s, inl e) = absurd (not-here i x q l s e)
               pick (inr x) (q, l, s, inr e) = absurd (not-here free none q l s e)

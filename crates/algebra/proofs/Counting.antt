@@ -64,7 +64,8 @@ sum-skip zero (suc p) f h = absurd (not-suc-le-zero (le-of-suc-le-suc h))
 sum-skip (suc n) (suc p) f h = let e = sum-skip n p (λ k. f (suc k)) (le-of-suc-le-suc h) in omega arith
 
 -- a property that holds just below t is counted t times
-pub sum-threshold : (K t : ℕ) (Q : ℕ → Type 0) (dec : (k : ℕ) → Dec (Q k)) → t ≤ K → ((k : ℕ) → k < t → Q k) → ((k : ℕ) → t ≤ k → k < K → Q k → ⊥) → sum-below K (λ k. keep (dec k) 1) ≡ t
+pub sum-threshold : (K t : ℕ) (Q : ℕ → Type 0) (dec : (k : ℕ) → Dec (Q k)) → t ≤ K → ((k : ℕ) → k < t → Q k)
+    → ((k : ℕ) → t ≤ k → k < K → Q k → ⊥) → sum-below K (λ k. keep (dec k) 1) ≡ t
 sum-threshold zero zero Q dec h a b = refl
 sum-threshold zero (suc t) Q dec h a b = absurd (not-suc-le-zero h)
 sum-threshold (suc K) zero Q dec h a b = ap₂ _+_ (keep-no (dec 0) 1 (b 0 zero-le (suc-le-suc zero-le))) (sum-threshold K zero (λ k. Q (suc k)) (λ k. dec (suc k)) zero-le (λ k l. absurd (not-suc-le-zero l)) (λ k l c. b (suc k) zero-le (suc-le-suc c)))

@@ -96,7 +96,8 @@ module _ {M : Type 0} (o : RingOps M) (F : IsField o) where
   }
 
   -- a divisor of a row divides its combinations
-  pub divides-dot : (n : ℕ) (f : ℕ → M) (a h : ℕ → ℕ → M) → ((i : ℕ) → i < n → Divides o f (a i)) → ((i : ℕ) → i < n → Polynomial o (h i)) → Divides o f (dot (series o) n a h)
+  pub divides-dot : (n : ℕ) (f : ℕ → M) (a h : ℕ → ℕ → M) → ((i : ℕ) → i < n → Divides o f (a i))
+      → ((i : ℕ) → i < n → Polynomial o (h i)) → Divides o f (dot (series o) n a h)
   divides-dot zero f a h d p = divides-zero f
   divides-dot (suc n) f a h d p =
       divides-sum f (a 0 · h 0) (dot (series o) n (λ i. a (suc i)) (λ i. h (suc i)))

@@ -60,11 +60,13 @@ module _ {M : Type 0} (o : RingOps M) (L : RingLaws o) (n m : ℕ) (w : ℕ → 
       at p q e (no c) = ap (λ t. t ⊙ w j i q) (b j p l (omega arith)) ∙ Sums.zero-product o L (w j i q)
 
   -- the coefficients of a sum of multiples at its top power
-  pub sum-top : (T : ℕ) (x : ℕ → ℕ → M) → TermsBelow o m δ (suc T) x → (i : ℕ) → i < n → total (series o) m (λ j. x j · w j i) T ≡ total o m (λ j. x j (T - δ j) ⊙ w j i (δ j))
+  pub sum-top : (T : ℕ) (x : ℕ → ℕ → M) → TermsBelow o m δ (suc T) x → (i : ℕ) → i < n
+      → total (series o) m (λ j. x j · w j i) T ≡ total o m (λ j. x j (T - δ j) ⊙ w j i (δ j))
   sum-top T x b i a = S.total-at o L m (λ j. x j · w j i) T ∙ Sums.total-ext o L m (λ j. (x j · w j i) T) (λ j. x j (T - δ j) ⊙ w j i (δ j)) (λ j l. term-top T x b j i l a)
 
   module _ (independent : Independent o All m n (λ j i. w j i (δ j))) where
-    down : (T : ℕ) (x : ℕ → ℕ → M) → TermsBelow o m δ (suc T) x → ((i : ℕ) → i < n → total (series o) m (λ j. x j · w j i) T ≡ O) → TermsBelow o m δ T x
+    down : (T : ℕ) (x : ℕ → ℕ → M) → TermsBelow o m δ (suc T) x
+        → ((i : ℕ) → i < n → total (series o) m (λ j. x j · w j i) T ≡ O) → TermsBelow o m δ T x
     down T x b z j e l h = go (eq-or-lt-of-le h)
       where
         top : x j (T - δ j) ≡ O
@@ -74,12 +76,14 @@ module _ {M : Type 0} (o : RingOps M) (L : RingLaws o) (n m : ℕ) (w : ℕ → 
         go (inl same) = ap (x j) (omega arith) ∙ top
         go (inr less) = b j e l less
 
-    descend : (t N : ℕ) (x : ℕ → ℕ → M) → ((i : ℕ) → i < n → Below o N (total (series o) m (λ j. x j · w j i))) → TermsBelow o m δ (N plus t) x → TermsBelow o m δ N x
+    descend : (t N : ℕ) (x : ℕ → ℕ → M) → ((i : ℕ) → i < n → Below o N (total (series o) m (λ j. x j · w j i)))
+        → TermsBelow o m δ (N plus t) x → TermsBelow o m δ N x
     descend zero N x z b = λ j e l h. b j e l (omega arith)
     descend (suc t) N x z b = descend t N x z (down (N plus t) x (λ j e l h. b j e l (omega arith)) (λ i a. z i a (N plus t) (omega arith)))
 
     -- a sum of multiples below s^N has no term that is not
-    pub predictable : (N : ℕ) (x : ℕ → ℕ → M) → ((j : ℕ) → j < m → Polynomial o (x j)) → ((i : ℕ) → i < n → Below o N (total (series o) m (λ j. x j · w j i))) → TermsBelow o m δ N x
+    pub predictable : (N : ℕ) (x : ℕ → ℕ → M) → ((j : ℕ) → j < m → Polynomial o (x j))
+        → ((i : ℕ) → i < n → Below o N (total (series o) m (λ j. x j · w j i))) → TermsBelow o m δ N x
     predictable N x p z =
         let K = B.common-bound o L m x p in
         let D = Naturals.common-top m δ in
@@ -89,7 +93,8 @@ module _ {M : Type 0} (o : RingOps M) (L : RingLaws o) (n m : ℕ) (w : ℕ → 
     independent-over-polynomials x p z j l = fun-ext (λ e. predictable 0 x p (λ i a k h. ap (λ (f : ℕ → M). f k) (z i a)) j e l zero-le)
 
     -- a sum of multiples is exactly one, and no term exceeds its degree
-    pub exactly-one-sum : (h x : ℕ → ℕ → M) → ((j : ℕ) → j < m → Polynomial o (x j)) → ((i : ℕ) → i < n → h i ≡ total (series o) m (λ j. x j · w j i)) → ExactlyOneSum o n m w h
+    pub exactly-one-sum : (h x : ℕ → ℕ → M) → ((j : ℕ) → j < m → Polynomial o (x j))
+        → ((i : ℕ) → i < n → h i ≡ total (series o) m (λ j. x j · w j i)) → ExactlyOneSum o n m w h
     exactly-one-sum h x q e = record {
       factor = x;
       polynomials = q;
@@ -132,10 +137,12 @@ module _ {M : Type 0} (o : RingOps M) (L : RingLaws o) (n m : ℕ) (w : ℕ → 
       vanish (suc s) (suc e) = vanish s e
 
   -- their sum of multiples: its coefficients at N, and its bound
-  pub lifted-sum-top : (N : ℕ) (y : ℕ → M) → ((j : ℕ) → j < m → N < δ j → y j ≡ O) → (i : ℕ) → i < n → total (series o) m (λ j. lifted N y j · w j i) N ≡ total o m (λ j. y j ⊙ w j i (δ j))
+  pub lifted-sum-top : (N : ℕ) (y : ℕ → M) → ((j : ℕ) → j < m → N < δ j → y j ≡ O) → (i : ℕ) → i < n
+      → total (series o) m (λ j. lifted N y j · w j i) N ≡ total o m (λ j. y j ⊙ w j i (δ j))
   lifted-sum-top N y z i a = sum-top N (lifted N y) (lifted-below N y z) i a ∙ Sums.total-ext o L m (λ j. lifted N y j (N - δ j) ⊙ w j i (δ j)) (λ j. y j ⊙ w j i (δ j)) (λ j l. ap (λ t. t ⊙ w j i (δ j)) (lifted-top N y j))
 
-  pub lifted-sum-bounded : (N : ℕ) (y : ℕ → M) → ((j : ℕ) → j < m → N < δ j → y j ≡ O) → Bounded o n (suc N) (λ i. total (series o) m (λ j. lifted N y j · w j i))
+  pub lifted-sum-bounded : (N : ℕ) (y : ℕ → M) → ((j : ℕ) → j < m → N < δ j → y j ≡ O)
+      → Bounded o n (suc N) (λ i. total (series o) m (λ j. lifted N y j · w j i))
   lifted-sum-bounded N y z i a = B.below-total o L m (suc N) (λ j. lifted N y j · w j i) (λ j l. term-bounded (suc N) (lifted N y) (lifted-below N y z) j l i a)
 
 -- vectors with leading places in distinct classes

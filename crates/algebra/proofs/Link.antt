@@ -39,12 +39,14 @@ module _ {M : Type 0} (o : RingOps M) (F : IsField o) where
   infixl 70 _⊙_
   infix 80 -_
   -- the products of an encoded block
-  encoded-dot : (n : ℕ) (a : ℕ → ℕ → M) (K : ℕ) (message : ℕ → M) (v h : ℕ → ℕ → M) → Encodes o n a K message v → dot (series o) n v h ≡ message · dot (series o) n a h
+  encoded-dot : (n : ℕ) (a : ℕ → ℕ → M) (K : ℕ) (message : ℕ → M) (v h : ℕ → ℕ → M) → Encodes o n a K message v
+      → dot (series o) n v h ≡ message · dot (series o) n a h
   encoded-dot n a K message v h e =
       Sums.total-ext (series o) SL n (λ i. v i · h i) (λ i. message · (a i · h i)) (λ i l. ap (λ t. t · h i) (e .is i l) ∙ SL .product-assoc message (a i) (h i))
       ∙ Sums.total-scale (series o) SL n message (λ i. a i · h i)
 
-  pub inverts : (m : ℕ) (a : ℕ → ℕ → M) (c : ℕ → ℕ → ℕ → M) → DegreeOptimal o m a 𝟙 c → (K : ℕ) (message : ℕ → M) (v : ℕ → ℕ → M) → Encodes o (suc m) a K message v → inverted o m c v ≡ message
+  pub inverts : (m : ℕ) (a : ℕ → ℕ → M) (c : ℕ → ℕ → ℕ → M) → DegreeOptimal o m a 𝟙 c
+      → (K : ℕ) (message : ℕ → M) (v : ℕ → ℕ → M) → Encodes o (suc m) a K message v → inverted o m c v ≡ message
   inverts m a c x K message v e = encoded-dot (suc m) a K message v (c 0) e ∙ ap (λ t. message · t) (x .first) ∙ SL .product-one message
 
   module _ (m : ℕ) (a : ℕ → ℕ → M) (d : ℕ) (c : ℕ → ℕ → ℕ → M) (degree : VectorDegree o (suc m) a d) (polynomials : (j : ℕ) → j < suc m → PolynomialVector o (suc m) (c j)) (x : DegreeOptimal o m a 𝟙 c) where
@@ -109,13 +111,16 @@ module _ {M : Type 0} (o : RingOps M) (F : IsField o) where
     pub encodes-clean : (K : ℕ) (v : ℕ → ℕ → M) (s : ℕ → M) → Encodes o n a K s v → Clean o m c v
     encodes-clean K v s e j l = encoded-dot n a K s v (c (suc j)) e ∙ ap (λ t. s · t) (check-syzygy j l) ∙ Sums.product-zero (series o) SL s
 
-  encoded-length : (m : ℕ) (a : ℕ → ℕ → M) (d : ℕ) → VectorDegree o (suc m) a d → (K : ℕ) (message : ℕ → M) (v : ℕ → ℕ → M) → Encodes o (suc m) a K message v → Bounded o (suc m) (K plus d) v
+  encoded-length : (m : ℕ) (a : ℕ → ℕ → M) (d : ℕ) → VectorDegree o (suc m) a d
+      → (K : ℕ) (message : ℕ → M) (v : ℕ → ℕ → M) → Encodes o (suc m) a K message v → Bounded o (suc m) (K plus d) v
   encoded-length m a d y K message v e i l = subst (Below o (K plus d)) (sym (e .is i l)) (B.below-product o L K (suc d) (K plus d) message (a i) (omega arith) (e .length) (y .bounded i l))
 
-  one-changed : (m : ℕ) (c : ℕ → ℕ → ℕ → M) (e : ℕ) → VectorDegree o (suc m) (c 0) e → (i t : ℕ) (v w : ℕ → ℕ → M) → i < suc m → OneChanged (suc m) i t v w → DifferAtMost (suc e) (inverted o m c v) (inverted o m c w)
+  one-changed : (m : ℕ) (c : ℕ → ℕ → ℕ → M) (e : ℕ) → VectorDegree o (suc m) (c 0) e → (i t : ℕ) (v w : ℕ → ℕ → M)
+      → i < suc m → OneChanged (suc m) i t v w → DifferAtMost (suc e) (inverted o m c v) (inverted o m c w)
   one-changed m c e y i t v w b same = record { place = λ j. t plus j; elsewhere = elsewhere }
     where
-      term : (k : ℕ) → ((j : ℕ) → j < suc e → k ≡ t plus j → ⊥) → (l : ℕ) → l < suc m → (p q : ℕ) → p plus q ≡ k → Dec (l ≡ i) → Dec (p ≡ t) → Dec (q < suc e) → v l p ⊙ c 0 l q ≡ w l p ⊙ c 0 l q
+      term : (k : ℕ) → ((j : ℕ) → j < suc e → k ≡ t plus j → ⊥) → (l : ℕ) → l < suc m → (p q : ℕ) → p plus q ≡ k
+          → Dec (l ≡ i) → Dec (p ≡ t) → Dec (q < suc e) → v l p ⊙ c 0 l q ≡ w l p ⊙ c 0 l q
       term k far l h p q s (no z) y₁ y₂ = ap (λ r. r ⊙ c 0 l q) (same l p h (λ r. z (r .0)))
       term k far l h p q s (yes z) (no z₁) y₂ = ap (λ r. r ⊙ c 0 l q) (same l p h (λ r. z₁ (r .1)))
       term k far l h p q s (yes z) (yes z₁) (yes z₂) = absurd (far q z₂ (omega arith))

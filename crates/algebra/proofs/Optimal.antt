@@ -39,7 +39,8 @@ module _ {M : Type 0} (o : RingOps M) (F : IsField o) (n : ℕ) where
   L₀ = F .laws .ring
 
   -- degrees that never fall do not fall over any distance
-  pub never-fall-far : (m : ℕ) (w : ℕ → ℕ → ℕ → M) → ((j : ℕ) → suc j < m → DegreeAtMost o n (w j) (w (suc j))) → (t l j : ℕ) → l plus t ≡ j → j < m → DegreeAtMost o n (w l) (w j)
+  pub never-fall-far : (m : ℕ) (w : ℕ → ℕ → ℕ → M) → ((j : ℕ) → suc j < m → DegreeAtMost o n (w j) (w (suc j)))
+      → (t l j : ℕ) → l plus t ≡ j → j < m → DegreeAtMost o n (w l) (w j)
   never-fall-far m w h zero l j e b = subst (λ (s : ℕ). DegreeAtMost o n (w l) (w s)) (let q : l ≡ j = omega arith in q) (λ N c. c)
   never-fall-far m w h (suc t) l j e b = λ N c. h l (omega arith) N (never-fall-far m w h t (suc l) j (omega arith) b N c)
 
@@ -118,7 +119,8 @@ module _ {M : Type 0} (o : RingOps M) (F : IsField o) (m d : ℕ) (r : ℕ → �
   check-degree j l = record { bounded = u-bounded j l; component = p j % n; within = mod-lt (p j) positive; top = λ z. Fields.one-nonzero o F (sym (u-leading j l) ∙ z) }
 
   -- the leading place of a syzygy is a basic place, shifted
-  cover : (Q : ℕ) → 0 ≤ Q → (h : ℕ → ℕ → M) → Syzygy o n r h → BelowPlace o n (suc Q) h → (at n h Q ≡ O → ⊥) → (j : ℕ) × (j < m) × (e : ℕ) × (Q ≡ p j plus n * e)
+  cover : (Q : ℕ) → 0 ≤ Q → (h : ℕ → ℕ → M) → Syzygy o n r h → BelowPlace o n (suc Q) h → (at n h Q ≡ O → ⊥)
+      → (j : ℕ) × (j < m) × (e : ℕ) × (Q ≡ p j plus n * e)
   cover Q z h s b x = go (cl .first (Q % n) (mod-lt Q positive) (λ e. cl .free-none Q e syzygy))
     where
       cl : Classes.Classes o n d r
@@ -143,7 +145,8 @@ module _ {M : Type 0} (o : RingOps M) (F : IsField o) (m d : ℕ) (r : ℕ → �
           not-before (yes a) = absurd (g .earlier (Q / n) a (subst (NonPivotal o n d r) (sym (div-add-mod Q n)) (Syzygies.nonpivotal-of-syzygy o F n positive d r (v .bounded) Q syzygy)))
 
   -- every syzygy is a sum of polynomial multiples of the check columns
-  pub generated : (h : ℕ → ℕ → M) → PolynomialVector o n h → Syzygy o n r h → (x : ℕ → ℕ → M) × ((j : ℕ) → j < m → Polynomial o (x j)) × ((i : ℕ) → i < n → h i ≡ total (series o) m (λ j. x j · u j i))
+  pub generated : (h : ℕ → ℕ → M) → PolynomialVector o n h → Syzygy o n r h
+      → (x : ℕ → ℕ → M) × ((j : ℕ) → j < m → Polynomial o (x j)) × ((i : ℕ) → i < n → h i ≡ total (series o) m (λ j. x j · u j i))
   generated h q s =
       let N = B.common-bound o L n h q in
       let reduced = Reduction.reduce o F n positive m u p u-below u-leading (Syzygy o n r) step 0 cover (n * N .0) h s (Places.below-place-of-bounded n positive o (N .0) h (N .1)) in
@@ -156,7 +159,8 @@ module _ {M : Type 0} (o : RingOps M) (F : IsField o) (m d : ℕ) (r : ℕ → �
           ∙ SL .sum-zero 𝟘
 
   -- a sum of multiples below s^N has no term that is not
-  pub terms-below : (N : ℕ) (x : ℕ → ℕ → M) (h : ℕ → ℕ → M) → ((j : ℕ) → j < m → Polynomial o (x j)) → ((i : ℕ) → i < n → h i ≡ total (series o) m (λ j. x j · u j i)) → Bounded o n N h → TermsBelow o m k N x
+  pub terms-below : (N : ℕ) (x : ℕ → ℕ → M) (h : ℕ → ℕ → M) → ((j : ℕ) → j < m → Polynomial o (x j))
+      → ((i : ℕ) → i < n → h i ≡ total (series o) m (λ j. x j · u j i)) → Bounded o n N h → TermsBelow o m k N x
   terms-below N x h q e b = Leading.predictable o L n m u k u-bounded leading-independent N x q (λ i a. subst (Below o N) (e i a) (b i a))
 
   pub exactly-one-sum : (h : ℕ → ℕ → M) → PolynomialVector o n h → Syzygy o n r h → ExactlyOneSum o n m u h
@@ -187,7 +191,8 @@ module _ {M : Type 0} (o : RingOps M) (F : IsField o) (m d : ℕ) (r : ℕ → �
           ]
 
   -- the coefficients of a syzygy at its top power are a combination of the leading vectors of the check columns of no higher degree
-  pub top-spanned : (N t : ℕ) → t ≤ m → ((l : ℕ) → t ≤ l → l < m → N < k l) → (h : ℕ → ℕ → M) → PolynomialVector o n h → Syzygy o n r h → Bounded o n (suc N) h → Spanned o All t n (λ l i. u l i (k l)) (λ i. h i N)
+  pub top-spanned : (N t : ℕ) → t ≤ m → ((l : ℕ) → t ≤ l → l < m → N < k l) → (h : ℕ → ℕ → M) → PolynomialVector o n h
+      → Syzygy o n r h → Bounded o n (suc N) h → Spanned o All t n (λ l i. u l i (k l)) (λ i. h i N)
   top-spanned N t a high h q s b =
       let x = generated h q s in
       let small = terms-below (suc N) (x .0) h (x .1) (x .2) b in

@@ -73,7 +73,8 @@ module _ {M : Type 0} (o : RingOps M) (F : IsField o) where
     ]
   ]
 
-  pub frame-exists : (m : ℕ) (a : ℕ → ℕ → M) → ((i : ℕ) → i < suc m → Polynomial o (a i)) → (AllZero o (suc m) a → ⊥) → (g : ℕ → M) × (d : ℕ) × (c : ℕ → ℕ → ℕ → M) × IsFrame o m a g d c
+  pub frame-exists : (m : ℕ) (a : ℕ → ℕ → M) → ((i : ℕ) → i < suc m → Polynomial o (a i)) → (AllZero o (suc m) a → ⊥)
+      → (g : ℕ → M) × (d : ℕ) × (c : ℕ → ℕ → ℕ → M) × IsFrame o m a g d c
   frame-exists m a p n0 =
       let x = G.gcd-exists o F (suc m) a p n0 in
       let g = x .divisor in
@@ -83,7 +84,8 @@ module _ {M : Type 0} (o : RingOps M) (F : IsField o) where
       let c = Frames.frame-columns-exist o F m (d .0) (r .0) (d .1) one in
       (g, d .0, c .1, record { divisor = x .gcd; row = r .0; divided = r .1; degree = d .1; place = c .0; columns = c .2 })
 
-  pub frame-unique : (m : ℕ) (a : ℕ → ℕ → M) (g h : ℕ → M) (d e : ℕ) (c b : ℕ → ℕ → ℕ → M) → IsFrame o m a g d c → IsFrame o m a h e b → (g ≡ h) × (d ≡ e) × ((j i : ℕ) → j < suc m → i < suc m → c j i ≡ b j i)
+  pub frame-unique : (m : ℕ) (a : ℕ → ℕ → M) (g h : ℕ → M) (d e : ℕ) (c b : ℕ → ℕ → ℕ → M) → IsFrame o m a g d c
+      → IsFrame o m a h e b → (g ≡ h) × (d ≡ e) × ((j i : ℕ) → j < suc m → i < suc m → c j i ≡ b j i)
   frame-unique m a g h d e c b x y =
       let g-same = G.gcd-unique o F (suc m) a g h (x .divisor) (y .divisor) in
       let divided : DividedRow o (suc m) a g (y .row) = subst (λ (t : ℕ → M). DividedRow o (suc m) a t (y .row)) (sym g-same) (y .divided) in
@@ -93,16 +95,19 @@ module _ {M : Type 0} (o : RingOps M) (F : IsField o) where
       (g-same, d-same, Frames.frame-columns-unique o F m d (x .row) (x .degree) (x .place) (y .place) c b (x .columns) (columns-same o L m d (y .row) (x .row) rows (y .place) b columns))
 
   -- the row times h is the gcd just when the divided row times h is 1
-  pub one-of-gcd : (n : ℕ) (a : ℕ → ℕ → M) (g : ℕ → M) (r h : ℕ → ℕ → M) → MonicGcd o n a g → DividedRow o n a g r → PolynomialVector o n h → dot (series o) n a h ≡ g → dot (series o) n r h ≡ series o .one
+  pub one-of-gcd : (n : ℕ) (a : ℕ → ℕ → M) (g : ℕ → M) (r h : ℕ → ℕ → M) → MonicGcd o n a g → DividedRow o n a g r
+      → PolynomialVector o n h → dot (series o) n a h ≡ g → dot (series o) n r h ≡ series o .one
   one-of-gcd n a g r h x y p e =
       D.product-cancel o F g (dot (series o) n r h) (series o .one) (suc (x .monic .degree), x .monic .below) (G.combination-polynomial o F n r h (y .polynomials) p) (B.polynomial-constant o L (o .one)) (D.degree-nonzero o F g (x .monic .degree) (G.monic-degree o F g (x .monic)))
       (sym (R.dot-divided o F n a g r h y) ∙ e ∙ sym (SL .product-one g))
 
-  pub gcd-of-one : (n : ℕ) (a : ℕ → ℕ → M) (g : ℕ → M) (r h : ℕ → ℕ → M) → DividedRow o n a g r → dot (series o) n r h ≡ series o .one → dot (series o) n a h ≡ g
+  pub gcd-of-one : (n : ℕ) (a : ℕ → ℕ → M) (g : ℕ → M) (r h : ℕ → ℕ → M) → DividedRow o n a g r
+      → dot (series o) n r h ≡ series o .one → dot (series o) n a h ≡ g
   gcd-of-one n a g r h y e = R.dot-divided o F n a g r h y ∙ ap (λ t. series o .product g t) e ∙ SL .product-one g
 
   -- ordered syzygies of the row are those of the divided row
-  pub ordered-divided : (n m : ℕ) (a : ℕ → ℕ → M) (g : ℕ → M) (r : ℕ → ℕ → M) (w : ℕ → ℕ → ℕ → M) → MonicGcd o n a g → DividedRow o n a g r → OrderedSyzygies o n m a w → OrderedSyzygies o n m r w
+  pub ordered-divided : (n m : ℕ) (a : ℕ → ℕ → M) (g : ℕ → M) (r : ℕ → ℕ → M) (w : ℕ → ℕ → ℕ → M) → MonicGcd o n a g
+      → DividedRow o n a g r → OrderedSyzygies o n m a w → OrderedSyzygies o n m r w
   ordered-divided n m a g r w x y s = record { polynomials = s .polynomials; syzygies = λ j l. R.same-syzygies o F n a g r x y (w j) (s .polynomials j l) .0 (s .syzygies j l); independent = s .independent; never-fall = s .never-fall }
 
   pub frame-optimal : (m : ℕ) (a : ℕ → ℕ → M) (g : ℕ → M) (d : ℕ) (c : ℕ → ℕ → ℕ → M) → IsFrame o m a g d c → DegreeOptimal o m a g c
@@ -114,7 +119,8 @@ module _ {M : Type 0} (o : RingOps M) (F : IsField o) where
     least = λ w s. Optimal.least-degrees o F m d (x .row) (x .degree) (x .place) c (x .columns) w (ordered-divided (suc m) m a g (x .row) w (x .divisor) (x .divided) s);
   }
 
-  pub frame-degrees : (m : ℕ) (a : ℕ → ℕ → M) (g : ℕ → M) (d : ℕ) (c : ℕ → ℕ → ℕ → M) → IsFrame o m a g d c → (k : ℕ → ℕ) × ((j : ℕ) → j < m → VectorDegree o (suc m) (c (suc j)) (k j)) × (sum-below m k ≡ d)
+  pub frame-degrees : (m : ℕ) (a : ℕ → ℕ → M) (g : ℕ → M) (d : ℕ) (c : ℕ → ℕ → ℕ → M) → IsFrame o m a g d c
+      → (k : ℕ → ℕ) × ((j : ℕ) → j < m → VectorDegree o (suc m) (c (suc j)) (k j)) × (sum-below m k ≡ d)
   frame-degrees m a g d c x = (
     λ j. x .place j / suc m,
     Optimal.check-degree o F m d (x .row) (x .degree) (x .place) c (x .columns),

@@ -101,7 +101,8 @@ module _ {M : Type 0} (o : RingOps M) (L : RingLaws o) where
       first-apart zero = sym (L .sum-zero (g 0 · f 0))
       first-apart (suc c) = refl
 
-      rest : ((e : ℕ) → coefficient o f tail e ≡ total o K (λ k. g (suc k) · shift o k f e)) → (c : ℕ) → shift o 1 (coefficient o tail f) c ≡ total o K (λ k. g (suc k) · shift o (suc k) f c)
+      rest : ((e : ℕ) → coefficient o f tail e ≡ total o K (λ k. g (suc k) · shift o k f e)) → (c : ℕ)
+          → shift o 1 (coefficient o tail f) c ≡ total o K (λ k. g (suc k) · shift o (suc k) f c)
       rest r zero = sym (Sums.total-zero o L K (λ k. g (suc k) · O) (λ k l. Sums.product-zero o L (g (suc k))))
       rest r (suc c) = ap (λ (t : ℕ → M). t c) (S.series-laws o L .product-comm tail f) ∙ r c
 
@@ -122,13 +123,15 @@ module _ {M : Type 0} (o : RingOps M) (L : RingLaws o) where
       ∙ sym (total-grid n K (λ i k. h i k · shift o k (r i) c))
 
   -- the product of the row with a vector, as a combination of the lists at the places below Q
-  pub dot-places : (n Q : ℕ) (r h : ℕ → ℕ → M) (c : ℕ) → zero < n → BelowPlace o n Q h → dot (series o) n r h c ≡ total o Q (λ q. at n h q · place-list o n r q c)
+  pub dot-places : (n Q : ℕ) (r h : ℕ → ℕ → M) (c : ℕ) → zero < n → BelowPlace o n Q h
+      → dot (series o) n r h c ≡ total o Q (λ q. at n h q · place-list o n r q c)
   dot-places n Q r h c p b =
       dot-grid n Q r h c (bounded-of-below-place n p o Q Q h (le-times n Q p) b)
       ∙ Spans.total-truncate o L Q (n * Q) (λ q. at n h q · place-list o n r q c) (le-times n Q p) (λ q l a. ap (λ t. t · place-list o n r q c) (below-place-at n p o Q h b q l) ∙ Sums.zero-product o L (place-list o n r q c))
 
   -- a combination of the lists below Q is the product of the row with a vector
-  pub dot-spread : (n Q : ℕ) (r : ℕ → ℕ → M) (x : ℕ → M) (c : ℕ) → zero < n → dot (series o) n r (spread n (Spans.cut o Q x)) c ≡ total o Q (λ q. x q · place-list o n r q c)
+  pub dot-spread : (n Q : ℕ) (r : ℕ → ℕ → M) (x : ℕ → M) (c : ℕ) → zero < n
+      → dot (series o) n r (spread n (Spans.cut o Q x)) c ≡ total o Q (λ q. x q · place-list o n r q c)
   dot-spread n Q r x c p =
       dot-places n Q r (spread n (Spans.cut o Q x)) c p (λ i k a l. Spans.cut-high o Q x (n * k plus i) l)
       ∙ Sums.total-ext o L Q (λ q. at n (spread n (Spans.cut o Q x)) q · place-list o n r q c) (λ q. x q · place-list o n r q c) (λ q l. ap (λ t. t · place-list o n r q c) (at-spread n p (Spans.cut o Q x) q ∙ Spans.cut-low o Q x q l))

@@ -86,7 +86,8 @@ module _ {M : Type 0} (o : RingOps M) (L : RingLaws o) where
   coefficient-zero f g (suc k) h = ap₂ _+_ (h 0 (suc k) (zero-add (suc k))) (coefficient-zero (tail f) g k (λ i j e. h (suc i) j (suc-add i j ∙ ap suc e))) ∙ L .sum-zero O
 
   -- a coefficient with one nonzero term is that term
-  pub coefficient-one-term : (f g : ℕ → M) (k i j : ℕ) → i plus j ≡ k → ((p q : ℕ) → p plus q ≡ k → (p ≡ i → ⊥) → f p · g q ≡ O) → coefficient o f g k ≡ f i · g j
+  pub coefficient-one-term : (f g : ℕ → M) (k i j : ℕ) → i plus j ≡ k
+      → ((p q : ℕ) → p plus q ≡ k → (p ≡ i → ⊥) → f p · g q ≡ O) → coefficient o f g k ≡ f i · g j
   coefficient-one-term f g zero zero j e h = ap (λ t. f 0 · g t) (sym (sym (zero-add j) ∙ e))
   coefficient-one-term f g zero (suc i) j e h = absurd (omega arith)
   coefficient-one-term f g (suc k) zero j e h =

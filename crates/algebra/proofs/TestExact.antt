@@ -149,7 +149,9 @@ module _ {M : Type 0} (o : RingOps M) (F : IsField o) (m d : ℕ) (r : ℕ → �
   degrees-chosen : (δ : ℕ → ℕ) × ((j : ℕ) → j < m → VectorDegree o n (w j) (δ j))
   degrees-chosen = E.choose {A = ℕ} (λ j e. VectorDegree o n (w j) e) 0 m (λ j l. degree j l (R.vector-zero-or-degree o F n (B.common-bound o L n (w j) (w-polynomials j l) .0) (w j) (B.common-bound o L n (w j) (w-polynomials j l) .1)))
     where
-      degree : (j : ℕ) (l : j < m) → AllZero o n (w j) ⊎ ((e : ℕ) × (e < B.common-bound o L n (w j) (w-polynomials j l) .0) × VectorDegree o n (w j) e) → (e : ℕ) × VectorDegree o n (w j) e
+      degree : (j : ℕ) (l : j < m)
+          → AllZero o n (w j) ⊎ ((e : ℕ) × (e < B.common-bound o L n (w j) (w-polynomials j l) .0) × VectorDegree o n (w j) e)
+          → (e : ℕ) × VectorDegree o n (w j) e
       degree j l (inl z) = absurd (nonzero j l z)
       degree j l (inr (e, b, x)) = (e, x)
 
@@ -283,7 +285,10 @@ module _ {M : Type 0} (o : RingOps M) (F : IsField o) (m d : ℕ) (r : ℕ → �
   degrees-sum = Counting.sum-ext m δ k same-degrees ∙ Optimal.check-degrees-sum o F m d r v p c f one
 
   -- a first column of least degree has its leading vector outside
-  pub outside : (t : ℕ → ℕ → M) → PolynomialVector o n t → dot (series o) n r t ≡ 𝟙 → ((h : ℕ → ℕ → M) → PolynomialVector o n h → dot (series o) n r h ≡ 𝟙 → DegreeAtMost o n t h) → (e : ℕ) → VectorDegree o n t e → (x : ℕ → M) → ((j : ℕ) → j < m → e < δ j → x j ≡ O) → ((i : ℕ) → i < n → t i e ≡ total o m (λ j. x j ⊙ w j i (δ j))) → ⊥
+  pub outside : (t : ℕ → ℕ → M) → PolynomialVector o n t → dot (series o) n r t ≡ 𝟙
+      → ((h : ℕ → ℕ → M) → PolynomialVector o n h → dot (series o) n r h ≡ 𝟙 → DegreeAtMost o n t h) → (e : ℕ)
+      → VectorDegree o n t e → (x : ℕ → M) → ((j : ℕ) → j < m → e < δ j → x j ≡ O)
+      → ((i : ℕ) → i < n → t i e ≡ total o m (λ j. x j ⊙ w j i (δ j))) → ⊥
   outside t q b first-least e y x off is = y .top (first-least lower (λ i a. (e, lower-bounded i a)) lower-one e lower-bounded (y .component) (y .within) e (le-refl e))
     where
       z : ℕ → ℕ → M
@@ -308,7 +313,9 @@ module _ {M : Type 0} (o : RingOps M) (F : IsField o) (m d : ℕ) (r : ℕ → �
           ∙ SL .sum-zero 𝟙
 
 -- degree-optimal columns of polynomials pass the test by degrees
-pub test-of-optimal : {M : Type 0} (o : RingOps M) (F : IsField o) (m : ℕ) (a : ℕ → ℕ → M) (g : ℕ → M) (r : ℕ → ℕ → M) (d : ℕ) (c : ℕ → ℕ → ℕ → M) → DividedRow o (suc m) a g r → VectorDegree o (suc m) r d → ((j : ℕ) → j < suc m → PolynomialVector o (suc m) (c j)) → DegreeOptimal o m a g c → PassesTest o m a g d c
+pub test-of-optimal : {M : Type 0} (o : RingOps M) (F : IsField o) (m : ℕ) (a : ℕ → ℕ → M) (g : ℕ → M) (r : ℕ → ℕ → M) (d : ℕ) (c : ℕ → ℕ → ℕ → M)
+    → DividedRow o (suc m) a g r → VectorDegree o (suc m) r d → ((j : ℕ) → j < suc m → PolynomialVector o (suc m) (c j))
+    → DegreeOptimal o m a g c → PassesTest o m a g d c
 test-of-optimal {M} o F m a g r d c y v q t = record {
   first = t .first;
   check = λ j l. R.same-syzygies o F (suc m) a g r x y (c (suc j)) (q (suc j) (suc-le-suc l)) .1 (syzygies o F m d r v one w polynomials basis least j l);

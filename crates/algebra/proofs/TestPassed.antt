@@ -46,12 +46,16 @@ module _ {M : Type 0} (o : RingOps M) (F : IsField o) (n : ℕ) where
   le-of-at-most h w e b x y c = let q = vector-degree-lt h e (suc b) x (c (suc b) y) in omega arith
 
   -- the sum of multiples of syzygies is a syzygy
-  pub combination-syzygy : (m : ℕ) (r : ℕ → ℕ → M) (w : ℕ → ℕ → ℕ → M) (x : ℕ → ℕ → M) → ((j : ℕ) → j < m → Syzygy o n r (w j)) → Syzygy o n r (λ i. total (series o) m (λ j. series o .product (x j) (w j i)))
+  pub combination-syzygy : (m : ℕ) (r : ℕ → ℕ → M) (w : ℕ → ℕ → ℕ → M) (x : ℕ → ℕ → M)
+      → ((j : ℕ) → j < m → Syzygy o n r (w j))
+      → Syzygy o n r (λ i. total (series o) m (λ j. series o .product (x j) (w j i)))
   combination-syzygy m r w x s =
       Spans.dot-combination (series o) (S.series-laws o L₀) n m r x w
       ∙ Sums.total-zero (series o) (S.series-laws o L₀) m (λ j. series o .product (x j) (dot (series o) n r (w j))) (λ j l. ap (λ t. series o .product (x j) t) (s j l) ∙ Sums.product-zero (series o) (S.series-laws o L₀) (x j))
 
-  pub combination-vector : (m : ℕ) (w : ℕ → ℕ → ℕ → M) (x : ℕ → ℕ → M) → ((j : ℕ) → j < m → Polynomial o (x j)) → ((j : ℕ) → j < m → PolynomialVector o n (w j)) → PolynomialVector o n (λ i. total (series o) m (λ j. series o .product (x j) (w j i)))
+  pub combination-vector : (m : ℕ) (w : ℕ → ℕ → ℕ → M) (x : ℕ → ℕ → M) → ((j : ℕ) → j < m → Polynomial o (x j))
+      → ((j : ℕ) → j < m → PolynomialVector o n (w j))
+      → PolynomialVector o n (λ i. total (series o) m (λ j. series o .product (x j) (w j i)))
   combination-vector m w x p q i a = B.polynomial-total o L₀ m (λ j. series o .product (x j) (w j i)) (λ j l. B.polynomial-product o L₀ (x j) (w j i) (p j l) (q j l i a))
 
 module _ {M : Type 0} (o : RingOps M) (F : IsField o) (m d : ℕ) (r : ℕ → ℕ → M) (v : VectorDegree o (suc m) r d) (one : Combination o (suc m) r (series o .one))
@@ -114,10 +118,12 @@ module _ {M : Type 0} (o : RingOps M) (F : IsField o) (m d : ℕ) (r : ℕ → �
       (Optimal.check-degrees-sum o F m d r v p c f one ∙ sym degrees-sum)
 
   -- the coefficients of a syzygy at its top power are a combination of leading vectors of the w of no higher degree
-  top-combination : (N : ℕ) (h : ℕ → ℕ → M) → PolynomialVector o n h → Syzygy o n r h → Bounded o n (suc N) h → (y : ℕ → M) × ((j : ℕ) → j < m → N < δ j → y j ≡ O) × ((i : ℕ) → i < n → h i N ≡ total o m (λ j. y j ⊙ w j i (δ j)))
+  top-combination : (N : ℕ) (h : ℕ → ℕ → M) → PolynomialVector o n h → Syzygy o n r h → Bounded o n (suc N) h
+      → (y : ℕ → M) × ((j : ℕ) → j < m → N < δ j → y j ≡ O) × ((i : ℕ) → i < n → h i N ≡ total o m (λ j. y j ⊙ w j i (δ j)))
   top-combination N h q s b = go (Naturals.prefix m N δ never-fall)
     where
-      go : (t : ℕ) × (t ≤ m) × ((j : ℕ) → j < t → δ j ≤ N) × ((j : ℕ) → t ≤ j → j < m → N < δ j) → (y : ℕ → M) × ((j : ℕ) → j < m → N < δ j → y j ≡ O) × ((i : ℕ) → i < n → h i N ≡ total o m (λ j. y j ⊙ w j i (δ j)))
+      go : (t : ℕ) × (t ≤ m) × ((j : ℕ) → j < t → δ j ≤ N) × ((j : ℕ) → t ≤ j → j < m → N < δ j)
+          → (y : ℕ → M) × ((j : ℕ) → j < m → N < δ j → y j ≡ O) × ((i : ℕ) → i < n → h i N ≡ total o m (λ j. y j ⊙ w j i (δ j)))
       go (t, t-le, low, high) = (Spans.cut o t (spanned .factor), off, is)
         where
           higher : (K l : ℕ) → K ≤ N → t ≤ l → l < m → K < k l
@@ -142,11 +148,14 @@ module _ {M : Type 0} (o : RingOps M) (F : IsField o) (m d : ℕ) (r : ℕ → �
               ∙ sym (Spans.total-truncate o L t m (λ j. Spans.cut o t (spanned .factor) j ⊙ w j i (δ j)) t-le (λ j e x. ap (λ z. z ⊙ w j i (δ j)) (Spans.cut-high o t (spanned .factor) j e) ∙ Sums.zero-product o L (w j i (δ j))))
 
   -- every syzygy is a sum of polynomial multiples of the w
-  generated : (N : ℕ) (h : ℕ → ℕ → M) → Bounded o n N h → Syzygy o n r h → (x : ℕ → ℕ → M) × ((j : ℕ) → j < m → Polynomial o (x j)) × ((i : ℕ) → i < n → h i ≡ total (series o) m (λ j. x j · w j i))
+  generated : (N : ℕ) (h : ℕ → ℕ → M) → Bounded o n N h → Syzygy o n r h
+      → (x : ℕ → ℕ → M) × ((j : ℕ) → j < m → Polynomial o (x j)) × ((i : ℕ) → i < n → h i ≡ total (series o) m (λ j. x j · w j i))
   generated zero h b s = (λ j. 𝟘, λ j l. B.polynomial-zero o L, λ i a. B.zero-of-below o L (h i) (b i a) ∙ sym (Sums.total-zero (series o) SL m (λ j. 𝟘 · w j i) (λ j l. Sums.zero-product (series o) SL (w j i))))
   generated (suc N) h b s = go (top-combination N h (λ i a. (suc N, b i a)) s b) (generated N)
     where
-      go : (y : ℕ → M) × ((j : ℕ) → j < m → N < δ j → y j ≡ O) × ((i : ℕ) → i < n → h i N ≡ total o m (λ j. y j ⊙ w j i (δ j))) → ((e : ℕ → ℕ → M) → Bounded o n N e → Syzygy o n r e → (x : ℕ → ℕ → M) × ((j : ℕ) → j < m → Polynomial o (x j)) × ((i : ℕ) → i < n → e i ≡ total (series o) m (λ j. x j · w j i))) → (x : ℕ → ℕ → M) × ((j : ℕ) → j < m → Polynomial o (x j)) × ((i : ℕ) → i < n → h i ≡ total (series o) m (λ j. x j · w j i))
+      go : (y : ℕ → M) × ((j : ℕ) → j < m → N < δ j → y j ≡ O) × ((i : ℕ) → i < n → h i N ≡ total o m (λ j. y j ⊙ w j i (δ j)))
+          → ((e : ℕ → ℕ → M) → Bounded o n N e → Syzygy o n r e → (x : ℕ → ℕ → M) × ((j : ℕ) → j < m → Polynomial o (x j)) × ((i : ℕ) → i < n → e i ≡ total (series o) m (λ j. x j · w j i)))
+          → (x : ℕ → ℕ → M) × ((j : ℕ) → j < m → Polynomial o (x j)) × ((i : ℕ) → i < n → h i ≡ total (series o) m (λ j. x j · w j i))
       go (y, off, is) rest = done (rest lower lower-bounded lower-syzygy)
         where
           z : ℕ → ℕ → M
@@ -170,7 +179,8 @@ module _ {M : Type 0} (o : RingOps M) (F : IsField o) (m d : ℕ) (r : ℕ → �
               ∙ ap₂ _+_ s (Spans.dot-negative (series o) SL n r part ∙ ap -_ (combination-syzygy o F n m r w z syzygies) ∙ Sums.negative-zero (series o) SL)
               ∙ SL .sum-zero 𝟘
 
-          done : (x : ℕ → ℕ → M) × ((j : ℕ) → j < m → Polynomial o (x j)) × ((i : ℕ) → i < n → lower i ≡ total (series o) m (λ j. x j · w j i)) → (x : ℕ → ℕ → M) × ((j : ℕ) → j < m → Polynomial o (x j)) × ((i : ℕ) → i < n → h i ≡ total (series o) m (λ j. x j · w j i))
+          done : (x : ℕ → ℕ → M) × ((j : ℕ) → j < m → Polynomial o (x j)) × ((i : ℕ) → i < n → lower i ≡ total (series o) m (λ j. x j · w j i))
+              → (x : ℕ → ℕ → M) × ((j : ℕ) → j < m → Polynomial o (x j)) × ((i : ℕ) → i < n → h i ≡ total (series o) m (λ j. x j · w j i))
           done (x, q, e) = (
             λ j. x j + z j,
             λ j l. B.polynomial-sum o L (x j) (z j) (q j l) (Leading.lifted-polynomial o L n m w δ w-bounded N y j),
@@ -194,7 +204,9 @@ module _ {M : Type 0} (o : RingOps M) (F : IsField o) (m d : ℕ) (r : ℕ → �
       bounded-mono o F n (w j) (suc (δ j)) N (omega arith) (w-bounded j l)
 
   -- a first column whose leading vector is no combination of leading vectors of no higher degree has least degree
-  pub first-least : (t : ℕ → ℕ → M) → PolynomialVector o n t → dot (series o) n r t ≡ 𝟙 → ((e : ℕ) → VectorDegree o n t e → (x : ℕ → M) → ((j : ℕ) → j < m → e < δ j → x j ≡ O) → ((i : ℕ) → i < n → t i e ≡ total o m (λ j. x j ⊙ w j i (δ j))) → ⊥) → (h : ℕ → ℕ → M) → PolynomialVector o n h → dot (series o) n r h ≡ 𝟙 → DegreeAtMost o n t h
+  pub first-least : (t : ℕ → ℕ → M) → PolynomialVector o n t → dot (series o) n r t ≡ 𝟙
+      → ((e : ℕ) → VectorDegree o n t e → (x : ℕ → M) → ((j : ℕ) → j < m → e < δ j → x j ≡ O) → ((i : ℕ) → i < n → t i e ≡ total o m (λ j. x j ⊙ w j i (δ j))) → ⊥)
+      → (h : ℕ → ℕ → M) → PolynomialVector o n h → dot (series o) n r h ≡ 𝟙 → DegreeAtMost o n t h
   first-least t pt dt outside h ph dh N b = go (R.vector-zero-or-degree o F n (bound .0) t (bound .1))
     where
       bound : (K : ℕ) × ((i : ℕ) → i < n → Below o K (t i))
@@ -217,7 +229,9 @@ module _ {M : Type 0} (o : RingOps M) (F : IsField o) (m d : ℕ) (r : ℕ → �
       go (inr (e, l, x)) = elim (decLt e N) [ yes a ↦ bounded-mono o F n t (suc e) N a (x .bounded) | no a ↦ absurd (too-small e x (omega arith)) ]
 
 -- columns that pass the test by degrees are degree-optimal
-pub optimal-of-test : {M : Type 0} (o : RingOps M) (F : IsField o) (m : ℕ) (a : ℕ → ℕ → M) (g : ℕ → M) (r : ℕ → ℕ → M) (d : ℕ) (c : ℕ → ℕ → ℕ → M) → MonicGcd o (suc m) a g → DividedRow o (suc m) a g r → VectorDegree o (suc m) r d → PolynomialVector o (suc m) (c 0) → PassesTest o m a g d c → DegreeOptimal o m a g c
+pub optimal-of-test : {M : Type 0} (o : RingOps M) (F : IsField o) (m : ℕ) (a : ℕ → ℕ → M) (g : ℕ → M) (r : ℕ → ℕ → M) (d : ℕ) (c : ℕ → ℕ → ℕ → M)
+    → MonicGcd o (suc m) a g → DividedRow o (suc m) a g r → VectorDegree o (suc m) r d → PolynomialVector o (suc m) (c 0)
+    → PassesTest o m a g d c → DegreeOptimal o m a g c
 optimal-of-test {M} o F m a g r d c x y v q t = record {
   divisor = x;
   first = t .first;

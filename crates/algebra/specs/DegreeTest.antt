@@ -19,4 +19,6 @@ pub record PassesTest {M : Type 0} (o : RingOps M) (m : ℕ) (a : ℕ → ℕ �
   -- their leading vectors are independent
   pub independent : Independent o All m (suc m) (λ j i. c (suc j) i (degree j))
   -- column 0's leading vector is outside the combinations of leading vectors of check columns of no higher degree
-  pub outside : (e : ℕ) → VectorDegree o (suc m) (c 0) e → (x : ℕ → M) → ((j : ℕ) → j < m → e < degree j → x j ≡ o .zero) → ((i : ℕ) → i < suc m → c 0 i e ≡ total o m (λ j. o .product (x j) (c (suc j) i (degree j)))) → ⊥
+  pub outside : (e : ℕ) → VectorDegree o (suc m) (c 0) e → (x : ℕ → M)
+      → ((j : ℕ) → j < m → e < degree j → x j ≡ o .zero)
+      → ((i : ℕ) → i < suc m → c 0 i e ≡ total o m (λ j. o .product (x j) (c (suc j) i (degree j)))) → ⊥
