@@ -1,20 +1,18 @@
 -- The basic places of a row of m + 1 polynomials of which some combination is 1. Main results: basic-places (there are exactly m),
 -- pivotal-count (there are exactly 2d + 1 pivotal places), basic-powers-sum (the powers of the basic places add up to d).
-use mathlib.Core.Path.{_≡_, refl, sym, ap, ap₂, _∙_, subst}
-use mathlib.Core.Logic.{_⊎_, inl, inr}
+use mathlib.Core.Path.{_≡_, sym, ap, ap₂, _∙_, subst}
 use Prim.Native.Nat.{ℕ, zero, suc, _≤_, _<_, zero-le, suc-le-suc, _*_, _/_, _%_, _-_, _+_ as _plus_}
-use native.Mathlib.Nat.{le-of-suc-le-suc, not-suc-le-zero, le-refl, mod-lt, div-add-mod, mul-one, add-zero, zero-add}
-use native.Mathlib.Decide.{decLe, decLt, ℕ-discrete}
+use native.Mathlib.Nat.{le-refl, mod-lt, div-add-mod, mul-one, zero-add}
+use native.Mathlib.Decide.{decLt, ℕ-discrete}
 use native.Mathlib.Bridge.{le-prop}
 use native.Mathlib.Omega.{arith}
 use Rattle.algebra.specs.Rings.{RingOps, RingLaws, IsField}
-use Rattle.algebra.specs.Series.{sum-below, total, dot, constant, series, shift, Below, Polynomial}
-use Rattle.algebra.specs.Divisors.{Combination, VectorDegree, BoundedCombination}
-use Rattle.algebra.specs.Independence.{All, Domain, Spanned, Dependent, Independent}
+use Rattle.algebra.specs.Series.{sum-below, total, constant, series, shift, Polynomial}
+use Rattle.algebra.specs.Divisors.{Combination, VectorDegree}
+use Rattle.algebra.specs.Independence.{All, Domain, Spanned, Independent}
 use Rattle.algebra.specs.Places.{place-list, NonPivotal, Pivotal, Basic, BasicPlaces}
 use Rattle.algebra.proofs.Sums as Sums
 use Rattle.algebra.proofs.Series as S
-use Rattle.algebra.proofs.Fields as Fields
 use Rattle.algebra.proofs.Bounds as B
 use Rattle.algebra.proofs.Exchange as E
 use Rattle.algebra.proofs.Spans as Spans

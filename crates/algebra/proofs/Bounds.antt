@@ -3,11 +3,11 @@
 use mathlib.Core.Path.{_≡_, refl, sym, ap, ap₂, _∙_, fun-ext}
 use mathlib.Core.Logic.{_⊎_, inl, inr}
 use Prim.Native.Nat.{ℕ, zero, suc, _≤_, _<_, zero-le, suc-le-suc, max, _+_ as _plus_}
-use native.Mathlib.Nat.{le-trans, zero-add, le-max-left, le-max-right, eq-or-lt-of-le}
-use native.Mathlib.Decide.{decLe, decLt}
+use native.Mathlib.Nat.{le-trans, le-max-left, le-max-right, eq-or-lt-of-le}
+use native.Mathlib.Decide.{decLe}
 use native.Mathlib.Omega.{arith}
 use Rattle.algebra.specs.Rings.{RingOps, RingLaws}
-use Rattle.algebra.specs.Series.{total, coefficient, constant, series, shift, scale, Below, Degree, Polynomial}
+use Rattle.algebra.specs.Series.{total, constant, series, shift, scale, Below, Polynomial}
 use Rattle.algebra.proofs.Sums as Sums
 use Rattle.algebra.proofs.Series as S
 

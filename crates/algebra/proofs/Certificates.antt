@@ -1,18 +1,16 @@
 -- Given columns are the frame where finitely many coefficients say so. Main results: leading-place-of-sum (the leading place of a sum of
 -- multiples of vectors in distinct classes is one of theirs, shifted), frame-of-certificate.
-use mathlib.Core.Path.{_≡_, refl, sym, ap, ap₂, _∙_, subst, fun-ext}
+use mathlib.Core.Path.{_≡_, sym, ap, _∙_, subst}
 use mathlib.Core.Logic.{_⊎_, inl, inr}
 use Prim.Native.Nat.{ℕ, zero, suc, _≤_, _<_, zero-le, suc-le-suc, _*_, _/_, _%_, _-_, _+_ as _plus_}
-use native.Mathlib.Nat.{le-of-suc-le-suc, not-suc-le-zero, le-refl, eq-or-lt-of-le, mod-lt, div-add-mod, mul-add, mul-suc, mul-zero, mul-le-mul-left, eq-of-mul-eq-mul-left, add-mul-mod-self-left}
-use native.Mathlib.Decide.{decLe, decLt, ℕ-discrete}
+use native.Mathlib.Nat.{le-refl, eq-or-lt-of-le, mod-lt, div-add-mod, mul-add, mul-suc, mul-zero, mul-le-mul-left, eq-of-mul-eq-mul-left, add-mul-mod-self-left}
+use native.Mathlib.Decide.{decLe, ℕ-discrete}
 use native.Mathlib.Omega.{arith}
 use Rattle.algebra.specs.Rings.{RingOps, RingLaws, IsField}
 use Rattle.algebra.specs.Series.{sum-below, total, dot, series, Below, Polynomial}
 use Rattle.algebra.specs.Divisors.{Bounded, Divides, Combination, Monic, MonicGcd, DividedRow, VectorDegree}
-use Rattle.algebra.specs.Independence.{All, Independent}
 use Rattle.algebra.specs.Places.{NonPivotal, Basic, BasicPlaces}
-use Rattle.algebra.specs.Frames.{ZeroOffPivotal, FrameColumns, IsFrame}
-use Rattle.algebra.specs.Optimal.{PolynomialVector, Syzygy, ExactlyOneSum}
+use Rattle.algebra.specs.Frames.{FrameColumns, IsFrame}
 use Rattle.algebra.proofs.Sums as Sums
 use Rattle.algebra.proofs.Series as S
 use Rattle.algebra.proofs.Fields as Fields

@@ -1,13 +1,13 @@
 -- The classes of places, by component. Main results: classes (exactly one class has no non-pivotal place, and no syzygy has its leading place
 -- in it), basic-of-first and first-of-basic (the basic places are the first non-pivotal ones of the other classes).
-use mathlib.Core.Path.{_≡_, refl, sym, ap, ap₂, _∙_, subst}
+use mathlib.Core.Path.{_≡_, refl, sym, ap, _∙_, subst}
 use mathlib.Core.Logic.{_⊎_, inl, inr}
-use Prim.Native.Nat.{ℕ, zero, suc, _≤_, _<_, zero-le, suc-le-suc, _*_, _/_, _%_, _-_, _+_ as _plus_}
-use native.Mathlib.Nat.{le-of-suc-le-suc, not-suc-le-zero, le-refl, mod-lt, div-add-mod, mul-suc, mul-le-mul-left, mul-add}
-use native.Mathlib.Decide.{decLe, decLt, ℕ-discrete}
+use Prim.Native.Nat.{ℕ, zero, suc, _≤_, _<_, _*_, _/_, _%_, _-_, _+_ as _plus_}
+use native.Mathlib.Nat.{div-add-mod, mul-suc, mul-le-mul-left, mul-add}
+use native.Mathlib.Decide.{decLt, ℕ-discrete}
 use native.Mathlib.Omega.{arith}
 use Rattle.algebra.specs.Rings.{RingOps, RingLaws, IsField}
-use Rattle.algebra.specs.Series.{constant, series, shift, dot}
+use Rattle.algebra.specs.Series.{constant, series, shift}
 use Rattle.algebra.specs.Divisors.{VectorDegree}
 use Rattle.algebra.specs.Places.{place-list, NonPivotal, Basic}
 use Rattle.algebra.proofs.Sums as Sums
@@ -15,7 +15,6 @@ use Rattle.algebra.proofs.Series as S
 use Rattle.algebra.proofs.Spans as Spans
 use Rattle.algebra.proofs.Naturals as N
 use Rattle.algebra.proofs.Places as Places
-use Rattle.algebra.proofs.Places.{at, BelowPlace}
 use Rattle.algebra.proofs.Reduction as Reduction
 use Rattle.algebra.proofs.Syzygies as Syzygies
 use Rattle.algebra.proofs.Syzygies.{SyzygyAt}

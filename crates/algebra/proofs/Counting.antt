@@ -1,7 +1,6 @@
 -- Sums of numbers, and the places below a bound that have a decidable property, in rising order. Main results: enumerate, sum-grid (a sum
 -- over places is a sum over components and powers), sum-threshold and sum-single.
-use mathlib.Core.Path.{_≡_, refl, sym, ap, ap₂, _∙_, subst}
-use mathlib.Core.Logic.{_⊎_, inl, inr}
+use mathlib.Core.Path.{_≡_, refl, sym, ap, ap₂, _∙_}
 use Prim.Native.Nat.{ℕ, zero, suc, _≤_, _<_, _+_, _*_, zero-le, suc-le-suc}
 use native.Mathlib.Nat.{le-of-suc-le-suc, not-suc-le-zero, add-zero, zero-add, suc-add, add-assoc, add-comm, mul-zero, mul-suc, zero-mul, suc-mul}
 use native.Mathlib.Omega.{arith}

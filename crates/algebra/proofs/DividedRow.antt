@@ -4,15 +4,15 @@
 use mathlib.Core.Path.{_≡_, refl, sym, ap, ap₂, _∙_, subst}
 use mathlib.Core.Logic.{_⊎_, inl, inr, _↔_}
 use mathlib.Core.List.{[], _∷_}
-use Prim.Native.Nat.{ℕ, zero, suc, _≤_, _<_, zero-le, suc-le-suc, _+_ as _plus_}
-use native.Mathlib.Nat.{le-of-suc-le-suc, not-suc-le-zero, le-refl}
+use Prim.Native.Nat.{ℕ, zero, suc, _<_, _+_ as _plus_}
+use native.Mathlib.Nat.{not-suc-le-zero, le-refl}
 use native.Mathlib.Omega.{arith}
 use Rattle.algebra.specs.Rings.{RingOps, RingLaws, IsField}
-use Rattle.algebra.specs.Series.{total, dot, constant, series, Below, Degree, Polynomial}
-use Rattle.algebra.specs.Divisors.{Division, Divides, Combination, Monic, MonicGcd, AllZero, DividedRow, Bounded, VectorDegree, BoundedCombination}
+use Rattle.algebra.specs.Series.{total, dot, series, Below, Degree, Polynomial}
+use Rattle.algebra.specs.Divisors.{Combination, MonicGcd, AllZero, DividedRow, Bounded, VectorDegree, BoundedCombination}
 use Rattle.algebra.specs.Independence.{All, NotAllZero}
 use Rattle.algebra.proofs.Sums as Sums
-use Rattle.algebra.proofs.Solver.{solve, var, 𝟎, 𝟏, _⊞_, _⊠_, neg}
+use Rattle.algebra.proofs.Solver.{solve, var, _⊞_, _⊠_, neg}
 use Rattle.algebra.proofs.Series as S
 use Rattle.algebra.proofs.Bounds as B
 use Rattle.algebra.proofs.Degrees as D

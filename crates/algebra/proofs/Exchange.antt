@@ -1,10 +1,10 @@
 -- The exchange lemma over an integral domain with decidable zero. Main results: exchange (m equations in more than m unknowns have a solution
 -- that is not all zero), dependent-of-spanned (more vectors than span them are dependent), spanned-of-independent (as many independent
 -- vectors as span them span the same, up to a factor), domain-of-field and domain-of-polynomials.
-use mathlib.Core.Path.{_≡_, refl, sym, ap, ap₂, _∙_, subst}
+use mathlib.Core.Path.{_≡_, refl, sym, ap, ap₂, _∙_}
 use mathlib.Core.Logic.{_⊎_, inl, inr}
 use mathlib.Core.List.{[], _∷_}
-use Prim.Native.Nat.{ℕ, zero, suc, _≤_, _<_, zero-le, suc-le-suc}
+use Prim.Native.Nat.{ℕ, zero, suc, _<_, zero-le, suc-le-suc}
 use native.Mathlib.Nat.{le-of-suc-le-suc, not-suc-le-zero, le-refl}
 use native.Mathlib.Decide.{ℕ-discrete}
 use native.Mathlib.Omega.{arith}
@@ -12,8 +12,7 @@ use Rattle.algebra.specs.Rings.{RingOps, RingLaws, IsField}
 use Rattle.algebra.specs.Series.{total, dot, series, Polynomial}
 use Rattle.algebra.specs.Independence.{All, Domain, NotAllZero, Solution, Spanned, Dependent, Independent}
 use Rattle.algebra.proofs.Sums as Sums
-use Rattle.algebra.proofs.Solver.{solve, var, 𝟎, 𝟏, _⊞_, _⊠_, neg}
-use Rattle.algebra.proofs.Series as S
+use Rattle.algebra.proofs.Solver.{solve, var, 𝟎, _⊞_, _⊠_, neg}
 use Rattle.algebra.proofs.Fields as Fields
 use Rattle.algebra.proofs.Bounds as B
 use Rattle.algebra.proofs.Degrees as D

@@ -1,7 +1,6 @@
 -- Members of a field. Main results: numbering-decides (numbered members can be told apart), field-of, zero-of-product and nonzero-product (no
 -- zero divisors).
-use mathlib.Core.Path.{_≡_, refl, sym, ap, ap₂, _∙_}
-use mathlib.Core.List.{[], _∷_}
+use mathlib.Core.Path.{_≡_, sym, ap, _∙_}
 use Prim.Native.Nat.{ℕ}
 use native.Mathlib.Decide.{ℕ-discrete, map-dec}
 use Rattle.algebra.specs.Rings.{RingOps, RingLaws, FieldLaws, Invertible, Numbering, IsField}

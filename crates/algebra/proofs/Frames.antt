@@ -1,14 +1,13 @@
 -- The frame columns of a row of m + 1 polynomials of which some combination is 1. Main results: frame-columns-exist, frame-columns-unique,
 -- check-below and check-leading (the j-th basic place is the leading place of check column j).
-use mathlib.Core.Path.{_≡_, refl, sym, ap, ap₂, _∙_, subst, fun-ext}
-use mathlib.Core.Logic.{_⊎_, inl, inr}
+use mathlib.Core.Path.{_≡_, sym, ap, ap₂, _∙_, subst, fun-ext}
 use Prim.Native.Nat.{ℕ, zero, suc, _≤_, _<_, zero-le, suc-le-suc, _*_, _/_, _%_, _-_, _+_ as _plus_}
-use native.Mathlib.Nat.{le-of-suc-le-suc, not-suc-le-zero, le-refl, le-antisymm, mod-lt, div-add-mod}
-use native.Mathlib.Decide.{decLe, decLt, ℕ-discrete}
+use native.Mathlib.Nat.{le-of-suc-le-suc, le-refl, le-antisymm, mod-lt, div-add-mod}
+use native.Mathlib.Decide.{decLt, ℕ-discrete}
 use native.Mathlib.Omega.{arith}
 use Rattle.algebra.specs.Rings.{RingOps, RingLaws, IsField}
-use Rattle.algebra.specs.Series.{total, dot, constant, series, Below, Polynomial}
-use Rattle.algebra.specs.Divisors.{Bounded, Combination, VectorDegree, BoundedCombination}
+use Rattle.algebra.specs.Series.{dot, series}
+use Rattle.algebra.specs.Divisors.{Bounded, Combination, VectorDegree}
 use Rattle.algebra.specs.Independence.{All, Spanned}
 use Rattle.algebra.specs.Places.{place-list, NonPivotal, Basic, BasicPlaces}
 use Rattle.algebra.specs.Frames.{ZeroOffPivotal, FrameColumns}

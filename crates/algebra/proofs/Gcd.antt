@@ -1,13 +1,13 @@
 -- The monic greatest common divisor of a row of polynomials over a field. Main results: gcd-exists (with the vector whose product with the
 -- row it is), gcd-unique, gcd-combination.
-use mathlib.Core.Path.{_≡_, refl, sym, ap, ap₂, _∙_, fun-ext, subst}
+use mathlib.Core.Path.{_≡_, refl, sym, ap, _∙_, fun-ext, subst}
 use mathlib.Core.Logic.{_⊎_, inl, inr}
 use mathlib.Core.List.{[], _∷_}
-use Prim.Native.Nat.{ℕ, zero, suc, _≤_, _<_, zero-le, suc-le-suc, _+_ as _plus_}
-use native.Mathlib.Nat.{zero-add, add-zero}
+use Prim.Native.Nat.{ℕ, zero, suc, _<_, zero-le, suc-le-suc, _+_ as _plus_}
+use native.Mathlib.Nat.{add-zero}
 use native.Mathlib.Omega.{arith}
 use Rattle.algebra.specs.Rings.{RingOps, RingLaws, IsField}
-use Rattle.algebra.specs.Series.{total, dot, constant, series, scale, Below, Degree, Polynomial}
+use Rattle.algebra.specs.Series.{dot, constant, series, Below, Degree, Polynomial}
 use Rattle.algebra.specs.Divisors.{Division, Divides, Combination, Monic, MonicGcd, GcdOfRow, AllZero}
 use Rattle.algebra.proofs.Sums as Sums
 use Rattle.algebra.proofs.Solver.{solve, var, 𝟎, 𝟏, _⊞_, _⊠_, neg}

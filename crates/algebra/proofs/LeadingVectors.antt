@@ -2,11 +2,11 @@
 -- independent-over-polynomials, exactly-one-sum, lifted-sum-top (a combination of leading vectors is the top of a sum of multiples), echelon-independent (vectors with leading places in distinct classes have independent leading vectors).
 use mathlib.Core.Path.{_≡_, refl, sym, ap, ap₂, _∙_, subst, fun-ext}
 use mathlib.Core.Logic.{_⊎_, inl, inr}
-use Prim.Native.Nat.{ℕ, zero, suc, _≤_, _<_, zero-le, suc-le-suc, _*_, _/_, _%_, _-_, _+_ as _plus_}
-use native.Mathlib.Nat.{le-of-suc-le-suc, not-suc-le-zero, le-refl, eq-or-lt-of-le, mod-lt, div-add-mod, mul-suc, add-zero, add-suc}
+use Prim.Native.Nat.{ℕ, zero, suc, _≤_, _<_, zero-le, _/_, _%_, _-_, _+_ as _plus_}
+use native.Mathlib.Nat.{eq-or-lt-of-le, mod-lt, div-add-mod, mul-suc}
 use native.Mathlib.Decide.{decLe, decLt, ℕ-discrete}
 use native.Mathlib.Omega.{arith}
-use Rattle.algebra.specs.Rings.{RingOps, RingLaws, IsField}
+use Rattle.algebra.specs.Rings.{RingOps, RingLaws}
 use Rattle.algebra.specs.Series.{total, constant, series, shift, Below, Polynomial}
 use Rattle.algebra.specs.Divisors.{Bounded}
 use Rattle.algebra.specs.Independence.{All, Independent}

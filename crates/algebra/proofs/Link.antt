@@ -1,20 +1,18 @@
 -- The link over degree-optimal columns with divisor 1. Main results: message-of-clean (a clean block is the message that inverting gives times
 -- the row), clean-link (a block is clean exactly when it encodes a message; one changed symbol changes few).
-use mathlib.Core.Path.{_≡_, refl, sym, ap, ap₂, _∙_, subst, fun-ext}
-use mathlib.Core.Logic.{_⊎_, inl, inr, _↔_}
+use mathlib.Core.Path.{_≡_, refl, sym, ap, ap₂, _∙_, subst}
 use mathlib.Core.List.{[], _∷_}
-use Prim.Native.Nat.{ℕ, zero, suc, _≤_, _<_, zero-le, suc-le-suc, _-_, _+_ as _plus_}
-use native.Mathlib.Decide.{decLe, decLt, ℕ-discrete}
+use Prim.Native.Nat.{ℕ, zero, suc, _<_, zero-le, suc-le-suc, _-_, _+_ as _plus_}
+use native.Mathlib.Decide.{decLt, ℕ-discrete}
 use native.Mathlib.Omega.{arith}
 use Rattle.algebra.specs.Rings.{RingOps, RingLaws, IsField}
-use Rattle.algebra.specs.Series.{total, dot, constant, series, Below, Degree, Polynomial}
-use Rattle.algebra.specs.Divisors.{Bounded, MonicGcd, DividedRow, VectorDegree}
-use Rattle.algebra.specs.Optimal.{PolynomialVector, Syzygy, ExactlyOneSum, DegreeOptimal}
-use Rattle.algebra.specs.DegreeTest.{PassesTest}
+use Rattle.algebra.specs.Series.{total, dot, series, Below, Polynomial}
+use Rattle.algebra.specs.Divisors.{Bounded, DividedRow, VectorDegree}
+use Rattle.algebra.specs.Optimal.{PolynomialVector, Syzygy, DegreeOptimal}
 use Rattle.algebra.specs.Link.{Encodes, Clean, inverted, OneChanged, DifferAtMost}
 use Rattle.algebra.specs.Theorems.{CleanLink}
 use Rattle.algebra.proofs.Sums as Sums
-use Rattle.algebra.proofs.Solver.{solve, var, 𝟎, 𝟏, _⊞_, _⊠_, neg}
+use Rattle.algebra.proofs.Solver.{solve, var, _⊞_, _⊠_, neg}
 use Rattle.algebra.proofs.Series as S
 use Rattle.algebra.proofs.Bounds as B
 use Rattle.algebra.proofs.Degrees as D

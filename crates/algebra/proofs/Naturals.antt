@@ -1,5 +1,5 @@
 -- Bounded searches among numbers. Main results: first-below (the first number with a decidable property), all-or-not, prefix (of numbers that never fall, those up to N come first), common-top (a bound of finitely many numbers).
-use mathlib.Core.Path.{_≡_, refl, sym, ap, ap₂, _∙_, subst}
+use mathlib.Core.Path.{_≡_, ap}
 use mathlib.Core.Logic.{_⊎_, inl, inr}
 use Prim.Native.Nat.{ℕ, zero, suc, _≤_, _<_, zero-le, suc-le-suc, max, _+_, _-_}
 use native.Mathlib.Nat.{le-of-suc-le-suc, not-suc-le-zero, le-max-left, le-max-right, le-trans, le-refl}

@@ -1,17 +1,16 @@
 -- The frame columns are degree-optimal. Main results: exactly-one-sum (the check columns are a basis with predictable degrees), least-degrees
 -- (one by one), first-least (column 0 has least degree), check-degrees and check-degrees-sum (the check degrees add up to d).
-use mathlib.Core.Path.{_≡_, refl, sym, ap, ap₂, _∙_, subst, fun-ext}
-use mathlib.Core.Logic.{_⊎_, inl, inr}
+use mathlib.Core.Path.{_≡_, sym, ap, ap₂, _∙_, subst, fun-ext}
 use Prim.Native.Nat.{ℕ, zero, suc, _≤_, _<_, zero-le, suc-le-suc, _*_, _/_, _%_, _-_, _+_ as _plus_}
-use native.Mathlib.Nat.{le-of-suc-le-suc, not-suc-le-zero, le-refl, mod-lt, div-add-mod, mul-add, mul-le-mul-left, add-zero}
-use native.Mathlib.Decide.{decLe, decLt, ℕ-discrete}
+use native.Mathlib.Nat.{le-refl, mod-lt, div-add-mod, mul-add, mul-le-mul-left, add-zero}
+use native.Mathlib.Decide.{decLe, decLt}
 use native.Mathlib.Omega.{arith}
 use Rattle.algebra.specs.Rings.{RingOps, RingLaws, IsField}
-use Rattle.algebra.specs.Series.{sum-below, total, dot, constant, series, Below, Polynomial}
+use Rattle.algebra.specs.Series.{sum-below, total, dot, series, Below, Polynomial}
 use Rattle.algebra.specs.Divisors.{Bounded, Combination, VectorDegree}
-use Rattle.algebra.specs.Independence.{All, Domain, Spanned, Dependent, Independent}
-use Rattle.algebra.specs.Places.{place-list, NonPivotal, Basic, BasicPlaces}
-use Rattle.algebra.specs.Frames.{ZeroOffPivotal, FrameColumns}
+use Rattle.algebra.specs.Independence.{All, Domain, Spanned, Independent}
+use Rattle.algebra.specs.Places.{place-list, NonPivotal}
+use Rattle.algebra.specs.Frames.{FrameColumns}
 use Rattle.algebra.specs.Optimal.{PolynomialVector, DegreeAtMost, Syzygy, ExactlyOneSum, OrderedSyzygies}
 use Rattle.algebra.proofs.Sums as Sums
 use Rattle.algebra.proofs.Series as S
@@ -23,7 +22,6 @@ use Rattle.algebra.proofs.Pivots as Pivots
 use Rattle.algebra.proofs.Places as Places
 use Rattle.algebra.proofs.Places.{at, spread, BelowPlace}
 use Rattle.algebra.proofs.Reduction as Reduction
-use Rattle.algebra.proofs.Reduction.{Reduced}
 use Rattle.algebra.proofs.Syzygies as Syzygies
 use Rattle.algebra.proofs.Syzygies.{SyzygyAt}
 use Rattle.algebra.proofs.Classes as Classes

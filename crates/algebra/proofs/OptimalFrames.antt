@@ -1,17 +1,16 @@
 -- The frame of a row, not all zero. Main results: frame-exists, frame-unique, frame-optimal, optimal-frames (all together).
-use mathlib.Core.Path.{_≡_, refl, sym, ap, ap₂, _∙_, subst, fun-ext}
-use mathlib.Core.Logic.{_⊎_, inl, inr}
-use Prim.Native.Nat.{ℕ, zero, suc, _≤_, _<_, zero-le, suc-le-suc, _*_, _/_, _%_, _-_, _+_ as _plus_}
+use mathlib.Core.Path.{_≡_, sym, ap, _∙_, subst, fun-ext}
+use Prim.Native.Nat.{ℕ, suc, _<_, zero-le, suc-le-suc, _*_, _/_, _%_, _+_ as _plus_}
 use native.Mathlib.Nat.{mod-lt}
 use native.Mathlib.Decide.{decLt}
 use native.Mathlib.Omega.{arith}
 use Rattle.algebra.specs.Rings.{RingOps, RingLaws, IsField}
-use Rattle.algebra.specs.Series.{sum-below, total, dot, constant, series, shift, Below, Polynomial}
-use Rattle.algebra.specs.Divisors.{Bounded, Combination, MonicGcd, AllZero, DividedRow, VectorDegree}
+use Rattle.algebra.specs.Series.{sum-below, dot, series, shift, Polynomial}
+use Rattle.algebra.specs.Divisors.{MonicGcd, AllZero, DividedRow, VectorDegree}
 use Rattle.algebra.specs.Independence.{All, Spanned}
-use Rattle.algebra.specs.Places.{place-list, NonPivotal, Basic, BasicPlaces}
+use Rattle.algebra.specs.Places.{place-list, NonPivotal, Basic}
 use Rattle.algebra.specs.Frames.{ZeroOffPivotal, FrameColumns, IsFrame}
-use Rattle.algebra.specs.Optimal.{PolynomialVector, DegreeAtMost, Syzygy, ExactlyOneSum, OrderedSyzygies, DegreeOptimal}
+use Rattle.algebra.specs.Optimal.{PolynomialVector, OrderedSyzygies, DegreeOptimal}
 use Rattle.algebra.specs.Theorems.{OptimalFrames}
 use Rattle.algebra.proofs.Sums as Sums
 use Rattle.algebra.proofs.Series as S

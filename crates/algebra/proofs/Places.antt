@@ -1,19 +1,17 @@
 -- Vectors of polynomials by their places. Main results: place-div and place-mod (the power and the component of a place), dot-places (the
 -- product of a row with a vector is the combination of the lists by the vector's coefficients).
-use mathlib.Core.Path.{_≡_, refl, sym, ap, ap₂, _∙_, subst}
-use mathlib.Core.Logic.{_⊎_, inl, inr}
-use mathlib.Core.List.{[], _∷_}
+use mathlib.Core.Path.{_≡_, refl, sym, ap, ap₂, _∙_}
+use mathlib.Core.Logic.{inl, inr}
 use Prim.Native.Nat.{ℕ, zero, suc, _≤_, _<_, zero-le, suc-le-suc, _*_, _/_, _%_, _+_ as _plus_}
-use native.Mathlib.Nat.{eq-or-lt-of-le, le-of-suc-le-suc, not-suc-le-zero, le-refl, mul-add-div, div-eq-of-lt, mul-add-mod-self-left, mod-eq-of-lt, mod-lt, div-add-mod, mul-suc, mul-zero, mul-le-mul-left, mul-le-mul-right, one-mul}
+use native.Mathlib.Nat.{eq-or-lt-of-le, mul-add-div, div-eq-of-lt, mul-add-mod-self-left, mod-eq-of-lt, mod-lt, div-add-mod, mul-suc, mul-zero, mul-le-mul-left, mul-le-mul-right, one-mul}
 use native.Mathlib.Decide.{decLe}
 use native.Mathlib.Omega.{arith}
 use Rattle.algebra.specs.Rings.{RingOps, RingLaws}
-use Rattle.algebra.specs.Series.{total, dot, coefficient, constant, series, shift, scale, Below}
+use Rattle.algebra.specs.Series.{total, dot, coefficient, series, shift, Below}
 use Rattle.algebra.specs.Divisors.{Bounded}
 use Rattle.algebra.specs.Places.{place-list}
 use Rattle.algebra.proofs.Sums as Sums
 use Rattle.algebra.proofs.Series as S
-use Rattle.algebra.proofs.Bounds as B
 use Rattle.algebra.proofs.Spans as Spans
 
 pub place-div : (n k i : ℕ) → i < n → (n * k plus i) / n ≡ k

@@ -3,15 +3,15 @@
 use mathlib.Core.Path.{_≡_, refl, sym, ap, ap₂, _∙_, subst, fun-ext}
 use mathlib.Core.Logic.{_⊎_, inl, inr}
 use mathlib.Core.List.{[], _∷_}
-use Prim.Native.Nat.{ℕ, zero, suc, _≤_, _<_, zero-le, suc-le-suc, _*_, _/_, _%_, _-_, _+_ as _plus_}
-use native.Mathlib.Nat.{le-of-suc-le-suc, not-suc-le-zero, le-refl, eq-or-lt-of-le, mod-lt, div-add-mod, mul-suc, mul-le-mul-left, mul-add, mul-zero}
-use native.Mathlib.Decide.{decLe, decLt}
+use Prim.Native.Nat.{ℕ, zero, suc, _≤_, _<_, zero-le, _*_, _/_, _%_, _-_, _+_ as _plus_}
+use native.Mathlib.Nat.{le-refl, mod-lt, div-add-mod, mul-suc, mul-le-mul-left, mul-add}
+use native.Mathlib.Decide.{decLe}
 use native.Mathlib.Omega.{arith}
 use Rattle.algebra.specs.Rings.{RingOps, RingLaws, IsField}
-use Rattle.algebra.specs.Series.{total, dot, constant, series, shift, scale, Below, Polynomial}
+use Rattle.algebra.specs.Series.{total, constant, series, shift, scale, Polynomial}
 use Rattle.algebra.specs.Divisors.{AllZero}
 use Rattle.algebra.proofs.Sums as Sums
-use Rattle.algebra.proofs.Solver.{solve, var, 𝟎, 𝟏, _⊞_, _⊠_, neg}
+use Rattle.algebra.proofs.Solver.{solve, var, _⊞_, neg}
 use Rattle.algebra.proofs.Series as S
 use Rattle.algebra.proofs.Bounds as Bounds
 use Rattle.algebra.proofs.Exchange as E

@@ -2,13 +2,13 @@
 -- plain sum), shift-at and shift-low (the coefficients of s^n f), shift-product, constant-product.
 use mathlib.Core.Path.{_≡_, refl, sym, ap, ap₂, _∙_, fun-ext}
 use mathlib.Core.List.{[], _∷_}
-use Prim.Native.Nat.{ℕ, zero, suc, _≤_, _<_, _-_, zero-le, suc-le-suc, _+_ as _plus_}
+use Prim.Native.Nat.{ℕ, zero, suc, _<_, _-_, _+_ as _plus_}
 use native.Mathlib.Nat.{suc-add, zero-add, sub-zero, suc-sub-suc, le-of-suc-le-suc, not-suc-le-zero}
 use native.Mathlib.Omega.{arith}
 use Rattle.algebra.specs.Rings.{RingOps, RingLaws}
 use Rattle.algebra.specs.Series.{total, coefficient, constant, series, shift, scale}
 use Rattle.algebra.proofs.Sums as Sums
-use Rattle.algebra.proofs.Solver.{solve, var, 𝟎, 𝟏, _⊞_, _⊠_, neg}
+use Rattle.algebra.proofs.Solver.{solve, var, _⊞_, _⊠_}
 
 module _ {M : Type 0} (o : RingOps M) (L : RingLaws o) where
   open RingOps o using (zero as O, one as I, sum as _+_, negative as -_, product as _·_)

@@ -1,17 +1,17 @@
 -- Combinations of vectors of members of a field. Main results: spanned-sum, spanned-scale, spanned-total, spanned-trans (the combinations are
 -- closed), spanned-decides (whether a vector is a combination is decidable), dot-combination (a product with a combination).
-use mathlib.Core.Path.{_≡_, refl, sym, ap, ap₂, _∙_, subst}
+use mathlib.Core.Path.{_≡_, refl, sym, ap, ap₂, _∙_}
 use mathlib.Core.Logic.{_⊎_, inl, inr}
 use mathlib.Core.List.{[], _∷_}
 use Prim.Native.Nat.{ℕ, zero, suc, _≤_, _<_, zero-le, suc-le-suc}
-use native.Mathlib.Nat.{le-of-suc-le-suc, not-suc-le-zero, le-refl}
+use native.Mathlib.Nat.{le-of-suc-le-suc, not-suc-le-zero}
 use native.Mathlib.Decide.{map-dec}
 use native.Mathlib.Omega.{arith}
 use Rattle.algebra.specs.Rings.{RingOps, RingLaws, IsField}
 use Rattle.algebra.specs.Series.{total, dot}
 use Rattle.algebra.specs.Independence.{All, Domain, NotAllZero, Spanned, Independent}
 use Rattle.algebra.proofs.Sums as Sums
-use Rattle.algebra.proofs.Solver.{solve, var, 𝟎, 𝟏, _⊞_, _⊠_, neg}
+use Rattle.algebra.proofs.Solver.{solve, var, 𝟏, _⊞_, _⊠_, neg}
 use Rattle.algebra.proofs.Exchange as E
 
 -- the first N of the members x, and zeros behind them

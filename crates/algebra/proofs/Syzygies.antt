@@ -1,24 +1,23 @@
 -- Syzygies of a row by their leading places. Main results: vector-of-relation, syzygy-of-nonpivotal and nonpivotal-of-syzygy (a place is
 -- non-pivotal when a syzygy has it as leading place), reduce (division by vectors with leading places), one-of-two-classes,
 -- not-every-class, classes (exactly one class has no non-pivotal place).
-use mathlib.Core.Path.{_≡_, refl, sym, ap, ap₂, _∙_, subst, fun-ext}
+use mathlib.Core.Path.{_≡_, refl, sym, ap, ap₂, _∙_, fun-ext}
 use mathlib.Core.Logic.{_⊎_, inl, inr}
 use mathlib.Core.List.{[], _∷_}
-use Prim.Native.Nat.{ℕ, zero, suc, _≤_, _<_, zero-le, suc-le-suc, _*_, _/_, _%_, _-_, _+_ as _plus_}
-use native.Mathlib.Nat.{le-of-suc-le-suc, not-suc-le-zero, le-refl, eq-or-lt-of-le, mod-lt, div-add-mod, mul-suc, mul-le-mul-left, mul-add, mul-zero, add-zero}
-use native.Mathlib.Decide.{decLe, decLt, ℕ-discrete}
+use Prim.Native.Nat.{ℕ, zero, suc, _≤_, _<_, _*_, _/_, _%_, _-_, _+_ as _plus_}
+use native.Mathlib.Nat.{le-refl, mod-lt, div-add-mod, mul-suc, mul-add, mul-zero}
+use native.Mathlib.Decide.{decLt, ℕ-discrete}
 use native.Mathlib.Omega.{arith}
 use Rattle.algebra.specs.Rings.{RingOps, RingLaws, IsField}
-use Rattle.algebra.specs.Series.{total, dot, constant, series, shift, scale, Below, Degree, Polynomial}
+use Rattle.algebra.specs.Series.{total, dot, constant, series, shift, Below}
 use Rattle.algebra.specs.Divisors.{Bounded, VectorDegree, AllZero}
-use Rattle.algebra.specs.Independence.{All, Domain, Spanned}
+use Rattle.algebra.specs.Independence.{All, Domain}
 use Rattle.algebra.specs.Places.{place-list, NonPivotal}
 use Rattle.algebra.proofs.Sums as Sums
-use Rattle.algebra.proofs.Solver.{solve, var, 𝟎, 𝟏, _⊞_, _⊠_, neg}
+use Rattle.algebra.proofs.Solver.{solve, var, 𝟎, _⊞_, _⊠_, neg}
 use Rattle.algebra.proofs.Series as S
 use Rattle.algebra.proofs.Fields as Fields
 use Rattle.algebra.proofs.Bounds as B
-use Rattle.algebra.proofs.Degrees as D
 use Rattle.algebra.proofs.Exchange as E
 use Rattle.algebra.proofs.Spans as Spans
 use Rattle.algebra.proofs.Pivots as Pivots

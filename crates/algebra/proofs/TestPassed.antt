@@ -1,30 +1,28 @@
 -- Columns that pass the test by degrees are degree-optimal. Main result: optimal-of-test.
-use mathlib.Core.Path.{_≡_, refl, sym, ap, ap₂, _∙_, subst, fun-ext}
+use mathlib.Core.Path.{_≡_, refl, sym, ap, ap₂, _∙_}
 use mathlib.Core.Logic.{_⊎_, inl, inr}
 use mathlib.Core.List.{[], _∷_}
-use Prim.Native.Nat.{ℕ, zero, suc, _≤_, _<_, zero-le, suc-le-suc, _*_, _/_, _-_, _+_ as _plus_}
-use native.Mathlib.Nat.{le-of-suc-le-suc, not-suc-le-zero, le-refl}
-use native.Mathlib.Decide.{decLe, decLt}
+use Prim.Native.Nat.{ℕ, zero, suc, _≤_, _<_, _/_, _-_}
+use native.Mathlib.Nat.{le-refl}
+use native.Mathlib.Decide.{decLt}
 use native.Mathlib.Omega.{arith}
 use Rattle.algebra.specs.Rings.{RingOps, RingLaws, IsField}
-use Rattle.algebra.specs.Series.{sum-below, total, dot, constant, series, Below, Polynomial}
+use Rattle.algebra.specs.Series.{sum-below, total, dot, series, Below, Polynomial}
 use Rattle.algebra.specs.Divisors.{Bounded, Combination, MonicGcd, AllZero, DividedRow, VectorDegree}
 use Rattle.algebra.specs.Independence.{All, Domain, Spanned, Independent}
 use Rattle.algebra.specs.Frames.{FrameColumns}
 use Rattle.algebra.specs.Optimal.{PolynomialVector, DegreeAtMost, Syzygy, ExactlyOneSum, OrderedSyzygies, DegreeOptimal}
 use Rattle.algebra.specs.DegreeTest.{PassesTest}
 use Rattle.algebra.proofs.Sums as Sums
-use Rattle.algebra.proofs.Solver.{solve, var, 𝟎, 𝟏, _⊞_, _⊠_, neg}
+use Rattle.algebra.proofs.Solver.{solve, var, _⊞_, neg}
 use Rattle.algebra.proofs.Series as S
 use Rattle.algebra.proofs.Bounds as B
-use Rattle.algebra.proofs.Degrees as D
 use Rattle.algebra.proofs.Exchange as E
 use Rattle.algebra.proofs.Spans as Spans
 use Rattle.algebra.proofs.Naturals as Naturals
 use Rattle.algebra.proofs.Counting as Counting
 use Rattle.algebra.proofs.DividedRow as R
 use Rattle.algebra.proofs.LeadingVectors as Leading
-use Rattle.algebra.proofs.LeadingVectors.{TermsBelow}
 use Rattle.algebra.proofs.Frames as Frames
 use Rattle.algebra.proofs.Optimal as Optimal
 use Rattle.algebra.proofs.OptimalFrames as OptimalFrames

@@ -1,6 +1,6 @@
 -- Finite sums, series of members with their product, polynomials as bounded series, exact degrees. Every crate's clauses on polynomials cite it.
 use mathlib.Core.Path.{_≡_}
-use Prim.Native.Nat.{ℕ, zero, suc, _≤_, _<_, _+_}
+use Prim.Native.Nat.{ℕ, zero, suc, _≤_, _+_}
 use Rattle.algebra.specs.Rings.{RingOps}
 
 -- f 0 + f 1 + .. + f (n - 1)

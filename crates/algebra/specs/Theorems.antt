@@ -1,10 +1,10 @@
 -- What the theorems of the crate say, over the operations of a field. Each stands on the contract of a function named by it.
 use mathlib.Core.Path.{_≡_}
 use mathlib.Core.Logic.{_⊎_, _↔_}
-use Prim.Native.Nat.{ℕ, suc, _≤_, _<_, _+_, _-_}
+use Prim.Native.Nat.{ℕ, suc, _<_, _+_, _-_}
 use Rattle.algebra.specs.Rings.{RingOps, RingLaws}
 use Rattle.algebra.specs.Series.{sum-below, total, dot, series, shift, Below, Degree, Polynomial}
-use Rattle.algebra.specs.Divisors.{Division, Divides, Combination, MonicGcd, GcdOfRow, AllZero, DividedRow, Bounded, VectorDegree, BoundedCombination}
+use Rattle.algebra.specs.Divisors.{Division, Combination, MonicGcd, GcdOfRow, AllZero, DividedRow, Bounded, VectorDegree, BoundedCombination}
 use Rattle.algebra.specs.Places.{BasicPlaces}
 use Rattle.algebra.specs.Frames.{IsFrame}
 use Rattle.algebra.specs.Optimal.{PolynomialVector, DegreeOptimal}
