@@ -4,15 +4,15 @@
 use mathlib.Core.Path.{_≡_, refl, sym, ap, ap₂, _∙_, subst}
 use mathlib.Core.Logic.{_⊎_, inl, inr, _↔_}
 use mathlib.Core.List.{[], _∷_}
-use Prim.Native.Nat.{ℕ, zero, suc, _≤_, _<_, zero-le, suc-le-suc, _+_ as _plus_}
-use native.Mathlib.Nat.{le-of-suc-le-suc, not-suc-le-zero, le-refl}
+use Prim.Native.Nat.{ℕ, zero, suc, _<_, _+_ as _plus_}
+use native.Mathlib.Nat.{not-suc-le-zero, le-refl}
 use native.Mathlib.Omega.{arith}
 use Rattle.algebra.specs.Rings.{RingOps, RingLaws, IsField}
-use Rattle.algebra.specs.Series.{total, dot, constant, series, Below, Degree, Polynomial}
-use Rattle.algebra.specs.Divisors.{Division, Divides, Combination, Monic, MonicGcd, AllZero, DividedRow, Bounded, VectorDegree, BoundedCombination}
+use Rattle.algebra.specs.Series.{total, dot, series, Below, Degree, Polynomial}
+use Rattle.algebra.specs.Divisors.{Combination, MonicGcd, AllZero, DividedRow, Bounded, VectorDegree, BoundedCombination}
 use Rattle.algebra.specs.Independence.{All, NotAllZero}
 use Rattle.algebra.proofs.Sums as Sums
-use Rattle.algebra.proofs.Solver.{solve, var, 𝟎, 𝟏, _⊞_, _⊠_, neg}
+use Rattle.algebra.proofs.Solver.{solve, var, _⊞_, _⊠_, neg}
 use Rattle.algebra.proofs.Series as S
 use Rattle.algebra.proofs.Bounds as B
 use Rattle.algebra.proofs.Degrees as D
@@ -44,7 +44,8 @@ module _ {M : Type 0} (o : RingOps M) (F : IsField o) where
   gcd-polynomial : (n : ℕ) (a : ℕ → ℕ → M) (g : ℕ → M) → MonicGcd o n a g → Polynomial o g
   gcd-polynomial n a g p = (suc (p .monic .degree), p .monic .below)
 
-  pub divided-row-unique : (n : ℕ) (a : ℕ → ℕ → M) (g : ℕ → M) → MonicGcd o n a g → (r t : ℕ → ℕ → M) → DividedRow o n a g r → DividedRow o n a g t → (i : ℕ) → i < n → r i ≡ t i
+  pub divided-row-unique : (n : ℕ) (a : ℕ → ℕ → M) (g : ℕ → M) → MonicGcd o n a g → (r t : ℕ → ℕ → M)
+      → DividedRow o n a g r → DividedRow o n a g t → (i : ℕ) → i < n → r i ≡ t i
   divided-row-unique n a g p r t d e i h = D.product-cancel o F g (r i) (t i) (gcd-polynomial n a g p) (d .polynomials i h) (e .polynomials i h) (gcd-nonzero n a g p) (d .is i h ∙ sym (e .is i h))
 
   -- the row times a vector is the gcd times the divided row times it
@@ -53,7 +54,8 @@ module _ {M : Type 0} (o : RingOps M) (F : IsField o) where
       Sums.total-ext (series o) SL n (λ i. a i · h i) (λ i. g · (r i · h i)) (λ i l. ap (λ t. t · h i) (sym (d .is i l)) ∙ SL .product-assoc g (r i) (h i))
       ∙ Sums.total-scale (series o) SL n g (λ i. r i · h i)
 
-  pub divided-polynomials : (n : ℕ) (a : ℕ → ℕ → M) (g : ℕ → M) (r : ℕ → ℕ → M) → MonicGcd o n a g → DividedRow o n a g r → (i : ℕ) → i < n → Polynomial o (a i)
+  pub divided-polynomials : (n : ℕ) (a : ℕ → ℕ → M) (g : ℕ → M) (r : ℕ → ℕ → M) → MonicGcd o n a g
+      → DividedRow o n a g r → (i : ℕ) → i < n → Polynomial o (a i)
   divided-polynomials n a g r p d i h = subst (Polynomial o) (d .is i h) (B.polynomial-product o L g (r i) (gcd-polynomial n a g p) (d .polynomials i h))
 
   pub one-is-combination : (n : ℕ) (a : ℕ → ℕ → M) (g : ℕ → M) (r : ℕ → ℕ → M) → MonicGcd o n a g → DividedRow o n a g r → Combination o n r 𝟙
@@ -67,7 +69,8 @@ module _ {M : Type 0} (o : RingOps M) (F : IsField o) where
       }
 
   -- the same vectors are sent to zero
-  pub same-syzygies : (n : ℕ) (a : ℕ → ℕ → M) (g : ℕ → M) (r : ℕ → ℕ → M) → MonicGcd o n a g → DividedRow o n a g r → (h : ℕ → ℕ → M) → ((i : ℕ) → i < n → Polynomial o (h i)) → (dot (series o) n a h ≡ 𝟘) ↔ (dot (series o) n r h ≡ 𝟘)
+  pub same-syzygies : (n : ℕ) (a : ℕ → ℕ → M) (g : ℕ → M) (r : ℕ → ℕ → M) → MonicGcd o n a g → DividedRow o n a g r
+      → (h : ℕ → ℕ → M) → ((i : ℕ) → i < n → Polynomial o (h i)) → (dot (series o) n a h ≡ 𝟘) ↔ (dot (series o) n r h ≡ 𝟘)
   same-syzygies n a g r p d h q = (
     λ e. D.zero-of-product o F g (dot (series o) n r h) (gcd-polynomial n a g p) (G.combination-polynomial o F n r h (d .polynomials) q) (gcd-nonzero n a g p) (sym (dot-divided n a g r h d) ∙ e),
     λ e. dot-divided n a g r h d ∙ ap (λ t. g · t) e ∙ Sums.product-zero (series o) SL g,
@@ -78,7 +81,9 @@ module _ {M : Type 0} (o : RingOps M) (F : IsField o) where
   vector-zero-or-degree n zero h b = inl (λ i l. B.zero-of-below o L (h i) (b i l))
   vector-zero-or-degree n (suc N) h b = go (E.all-zero-or-not o L All (E.domain-of-field o F) n (λ i. h i N) (λ i l. tt)) (vector-zero-or-degree n N h)
     where
-      go : ((i : ℕ) → i < n → h i N ≡ O) ⊎ NotAllZero o n (λ i. h i N) → (Bounded o n N h → AllZero o n h ⊎ ((d : ℕ) × (d < N) × VectorDegree o n h d)) → AllZero o n h ⊎ ((d : ℕ) × (d < suc N) × VectorDegree o n h d)
+      go : ((i : ℕ) → i < n → h i N ≡ O) ⊎ NotAllZero o n (λ i. h i N)
+          → (Bounded o n N h → AllZero o n h ⊎ ((d : ℕ) × (d < N) × VectorDegree o n h d))
+          → AllZero o n h ⊎ ((d : ℕ) × (d < suc N) × VectorDegree o n h d)
       go (inr x) rest = inr (N, le-refl (suc N), record { bounded = b; component = x .place; within = x .within; top = x .nonzero })
       go (inl z) rest = wider (rest (λ i l. B.below-top o L N (h i) (b i l) (z i l)))
         where
@@ -101,7 +106,9 @@ module _ {M : Type 0} (o : RingOps M) (F : IsField o) where
   component-degree n h d v = record { top = v .top; below = v .bounded (v .component) (v .within) }
 
   -- f b_i = r_c q_i + rem_i at each i but c: the vector with rem_i there and f b_c + Σ q_i r_i at c has the same product with the row
-  reduced-is : (n c : ℕ) (r b : ℕ → ℕ → M) (f : ℕ → M) (q rem : ℕ → ℕ → M) → c < suc n → ((j : ℕ) → j < n → f · b (E.skip c j) ≡ r c · q j + rem j) → dot (series o) (suc n) r (E.slot c (f · b c + total (series o) n (λ j. q j · r (E.skip c j))) rem) ≡ f · dot (series o) (suc n) r b
+  reduced-is : (n c : ℕ) (r b : ℕ → ℕ → M) (f : ℕ → M) (q rem : ℕ → ℕ → M) → c < suc n
+      → ((j : ℕ) → j < n → f · b (E.skip c j) ≡ r c · q j + rem j)
+      → dot (series o) (suc n) r (E.slot c (f · b c + total (series o) n (λ j. q j · r (E.skip c j))) rem) ≡ f · dot (series o) (suc n) r b
   reduced-is n c r b f q rem h e =
       E.total-skip (series o) SL n c (λ i. r i · E.slot c top rem i) h
       ∙ ap₂ _+_
@@ -123,7 +130,9 @@ module _ {M : Type 0} (o : RingOps M) (F : IsField o) where
           ∙ solve (series o) SL (x ∷ z ∷ f ∷ r c ∷ w ∷ []) (var 0 ⊠ (var 2 ⊠ var 1) ⊞ var 3 ⊠ neg (var 4 ⊠ var 0)) (var 2 ⊠ (var 0 ⊠ var 1) ⊞ var 3 ⊠ neg (var 4 ⊠ var 0)) refl
 
   -- the factor at c is bounded by what its product has to be
-  corner-below : (n d c : ℕ) (r rem : ℕ → ℕ → M) (f x : ℕ → M) → c < suc n → Bounded o (suc n) (suc d) r → Degree o (r c) d → ((j : ℕ) → j < n → Below o d (rem j)) → Polynomial o x → Below o (suc (d plus d)) f → dot (series o) (suc n) r (E.slot c x rem) ≡ f → Below o (suc d) x
+  corner-below : (n d c : ℕ) (r rem : ℕ → ℕ → M) (f x : ℕ → M) → c < suc n → Bounded o (suc n) (suc d) r
+      → Degree o (r c) d → ((j : ℕ) → j < n → Below o d (rem j)) → Polynomial o x → Below o (suc (d plus d)) f
+      → dot (series o) (suc n) r (E.slot c x rem) ≡ f → Below o (suc d) x
   corner-below n d c r rem f x h b dc s p bf e =
       D.below-factor o F (r c) x d (suc d) (suc (d plus d)) dc p (omega arith)
       (subst (Below o (suc (d plus d))) (sym product-is)
@@ -145,7 +154,8 @@ module _ {M : Type 0} (o : RingOps M) (F : IsField o) where
           ∙ e)
 
   -- a polynomial of degree at most 2d is the row times a vector of degree at most d
-  pub small-combination : (n d : ℕ) (r : ℕ → ℕ → M) → ((i : ℕ) → i < n → Polynomial o (r i)) → Combination o n r 𝟙 → VectorDegree o n r d → (f : ℕ → M) → Below o (suc (d plus d)) f → BoundedCombination o n (suc d) r f
+  pub small-combination : (n d : ℕ) (r : ℕ → ℕ → M) → ((i : ℕ) → i < n → Polynomial o (r i)) → Combination o n r 𝟙
+      → VectorDegree o n r d → (f : ℕ → M) → Below o (suc (d plus d)) f → BoundedCombination o n (suc d) r f
   small-combination zero d r p b v f bf = absurd (not-suc-le-zero (v .within))
   small-combination (suc n) d r p b v f bf =
       record {

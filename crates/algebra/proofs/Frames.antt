@@ -1,14 +1,13 @@
 -- The frame columns of a row of m + 1 polynomials of which some combination is 1. Main results: frame-columns-exist, frame-columns-unique,
 -- check-below and check-leading (the j-th basic place is the leading place of check column j).
-use mathlib.Core.Path.{_≡_, refl, sym, ap, ap₂, _∙_, subst, fun-ext}
-use mathlib.Core.Logic.{_⊎_, inl, inr}
+use mathlib.Core.Path.{_≡_, sym, ap, ap₂, _∙_, subst, fun-ext}
 use Prim.Native.Nat.{ℕ, zero, suc, _≤_, _<_, zero-le, suc-le-suc, _*_, _/_, _%_, _-_, _+_ as _plus_}
-use native.Mathlib.Nat.{le-of-suc-le-suc, not-suc-le-zero, le-refl, le-antisymm, mod-lt, div-add-mod}
-use native.Mathlib.Decide.{decLe, decLt, ℕ-discrete}
+use native.Mathlib.Nat.{le-of-suc-le-suc, le-refl, le-antisymm, mod-lt, div-add-mod}
+use native.Mathlib.Decide.{decLt, ℕ-discrete}
 use native.Mathlib.Omega.{arith}
 use Rattle.algebra.specs.Rings.{RingOps, RingLaws, IsField}
-use Rattle.algebra.specs.Series.{total, dot, constant, series, Below, Polynomial}
-use Rattle.algebra.specs.Divisors.{Bounded, Combination, VectorDegree, BoundedCombination}
+use Rattle.algebra.specs.Series.{dot, series}
+use Rattle.algebra.specs.Divisors.{Bounded, Combination, VectorDegree}
 use Rattle.algebra.specs.Independence.{All, Spanned}
 use Rattle.algebra.specs.Places.{place-list, NonPivotal, Basic, BasicPlaces}
 use Rattle.algebra.specs.Frames.{ZeroOffPivotal, FrameColumns}
@@ -31,7 +30,8 @@ rising-ahead m f r zero l = zero-le
 rising-ahead m f r (suc j) l = let h = rising-ahead m f r j (omega arith) in let e = r j (suc j) (le-refl (suc j)) l in omega arith
 
 -- of two rising lists of m numbers, the first among the second, the first is nowhere behind
-rising-le : (m : ℕ) (p t : ℕ → ℕ) → ((i j : ℕ) → i < j → j < m → p i < p j) → ((i j : ℕ) → i < j → j < m → t i < t j) → ((j : ℕ) → j < m → (k : ℕ) × (k < m) × (t k ≡ p j)) → (j : ℕ) → j < m → t j ≤ p j
+rising-le : (m : ℕ) (p t : ℕ → ℕ) → ((i j : ℕ) → i < j → j < m → p i < p j) → ((i j : ℕ) → i < j → j < m → t i < t j)
+    → ((j : ℕ) → j < m → (k : ℕ) × (k < m) × (t k ≡ p j)) → (j : ℕ) → j < m → t j ≤ p j
 rising-le m p t rp rt among j l = at-least j l (rising-ahead m f f-rising j l)
   where
     f : ℕ → ℕ
@@ -40,7 +40,8 @@ rising-le m p t rp rt among j l = at-least j l (rising-ahead m f f-rising j l)
     f-props : (a : ℕ) → a < m → (f a < m) × (t (f a) ≡ p a)
     f-props a h = go (decLt a m)
       where
-        go : (x : Dec (a < m)) → ((elim x as (λ (y : Dec (a < m)). ℕ) [ yes b ↦ among a b .0 | no b ↦ a ]) < m) × (t (elim x as (λ (y : Dec (a < m)). ℕ) [ yes b ↦ among a b .0 | no b ↦ a ]) ≡ p a)
+        go : (x : Dec (a < m))
+            → ((elim x as (λ (y : Dec (a < m)). ℕ) [ yes b ↦ among a b .0 | no b ↦ a ]) < m) × (t (elim x as (λ (y : Dec (a < m)). ℕ) [ yes b ↦ among a b .0 | no b ↦ a ]) ≡ p a)
         go (yes b) = (among a b .1, among a b .2)
         go (no b) = absurd (b h)
 
@@ -98,7 +99,9 @@ module _ {M : Type 0} (o : RingOps M) (F : IsField o) (m d : ℕ) (r : ℕ → �
   positive = suc-le-suc zero-le
 
   -- a vector that is zero off the pivotal places and whose product is zero is zero
-  pivotal-vector-zero : (h : ℕ → ℕ → M) → Bounded o n (suc d) h → ((i k : ℕ) → i < n → k < suc d → NonPivotal o n d r (n * k plus i) → h i k ≡ O) → dot (series o) n r h ≡ 𝟘 → (i : ℕ) → i < n → h i ≡ 𝟘
+  pivotal-vector-zero : (h : ℕ → ℕ → M) → Bounded o n (suc d) h
+      → ((i k : ℕ) → i < n → k < suc d → NonPivotal o n d r (n * k plus i) → h i k ≡ O) → dot (series o) n r h ≡ 𝟘
+      → (i : ℕ) → i < n → h i ≡ 𝟘
   pivotal-vector-zero h b off e i a = fun-ext (λ k. coefficient k (decLt k (suc d)))
     where
       at-zero : (q : ℕ) → q < places → at n h q ≡ O
@@ -111,7 +114,9 @@ module _ {M : Type 0} (o : RingOps M) (F : IsField o) (m d : ℕ) (r : ℕ → �
       coefficient k (yes l) = sym (Places.at-place n positive h i k a) ∙ at-zero (n * k plus i) (Classes.place-within o F n positive d r v k i a l)
       coefficient k (no l) = b i a k (omega arith)
 
-  difference-zero : (h e : ℕ → ℕ → M) → Bounded o n (suc d) h → Bounded o n (suc d) e → ((i k : ℕ) → i < n → k < suc d → NonPivotal o n d r (n * k plus i) → h i k ≡ e i k) → dot (series o) n r h ≡ dot (series o) n r e → (i : ℕ) → i < n → h i ≡ e i
+  pub difference-zero : (h e : ℕ → ℕ → M) → Bounded o n (suc d) h → Bounded o n (suc d) e
+      → ((i k : ℕ) → i < n → k < suc d → NonPivotal o n d r (n * k plus i) → h i k ≡ e i k)
+      → dot (series o) n r h ≡ dot (series o) n r e → (i : ℕ) → i < n → h i ≡ e i
   difference-zero h e b c off p i a =
       Sums.equal-of-difference (series o) SL (h i) (e i)
       (pivotal-vector-zero (λ j. h j + (- e j))
@@ -200,7 +205,8 @@ module _ {M : Type 0} (o : RingOps M) (F : IsField o) (m d : ℕ) (r : ℕ → �
       (rising-le m t p (y .rising) (x .rising) (λ k h. x .every (t k) (y .basic k h)) j l)
       (rising-le m p t (x .rising) (y .rising) (λ k h. y .every (p k) (x .basic k h)) j l)
 
-  pub frame-columns-unique : (p t : ℕ → ℕ) (c e : ℕ → ℕ → ℕ → M) → FrameColumns o m d r p c → FrameColumns o m d r t e → (j i : ℕ) → j < suc m → i < n → c j i ≡ e j i
+  pub frame-columns-unique : (p t : ℕ → ℕ) (c e : ℕ → ℕ → ℕ → M) → FrameColumns o m d r p c → FrameColumns o m d r t e
+      → (j i : ℕ) → j < suc m → i < n → c j i ≡ e j i
   frame-columns-unique p t c e x y zero i l a = difference-zero (c 0) (e 0) (x .first-off .bounded) (y .first-off .bounded) (λ b k f h s. x .first-off .zero-off b k f h s (λ z. z) ∙ sym (y .first-off .zero-off b k f h s (λ z. z))) (x .first ∙ sym (y .first)) i a
   frame-columns-unique p t c e x y (suc j) i l a =
       let h = le-of-suc-le-suc l in

@@ -19,4 +19,10 @@ pub mod Counting
 pub mod BasicPlaces
 pub mod LeadingVectors
 pub mod Frames
+pub mod Optimal
+pub mod OptimalFrames
+pub mod TestPassed
+pub mod TestExact
+pub mod Link
+pub mod Certificates
 pub mod Theorems

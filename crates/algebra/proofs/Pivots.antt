@@ -1,16 +1,16 @@
 -- Pivotal places of any lists of width w over a field: those whose list is no combination of the lists before it. Main results: pivotal-span
 -- (a combination of lists is a combination of pivotal ones), pivotal-unique (in one way only).
 use mathlib.Core.Path.{_≡_, refl, sym, ap, ap₂, _∙_, subst}
-use mathlib.Core.Logic.{_⊎_, inl, inr}
+use mathlib.Core.Logic.{inl, inr}
 use mathlib.Core.List.{[], _∷_}
-use Prim.Native.Nat.{ℕ, zero, suc, _≤_, _<_, zero-le, suc-le-suc}
+use Prim.Native.Nat.{ℕ, zero, suc, _<_}
 use native.Mathlib.Nat.{le-of-suc-le-suc, not-suc-le-zero, le-refl, eq-or-lt-of-le}
 use native.Mathlib.Omega.{arith}
 use Rattle.algebra.specs.Rings.{RingOps, RingLaws, IsField}
-use Rattle.algebra.specs.Series.{total, dot}
+use Rattle.algebra.specs.Series.{total}
 use Rattle.algebra.specs.Independence.{All, Domain, Spanned}
 use Rattle.algebra.proofs.Sums as Sums
-use Rattle.algebra.proofs.Solver.{solve, var, 𝟎, 𝟏, _⊞_, _⊠_, neg}
+use Rattle.algebra.proofs.Solver.{solve, var, 𝟏, _⊞_, _⊠_, neg}
 use Rattle.algebra.proofs.Exchange as E
 use Rattle.algebra.proofs.Spans as Spans
 
@@ -43,7 +43,8 @@ module _ {M : Type 0} (o : RingOps M) (F : IsField o) where
       ∙ ap₂ _+_ (Sums.total-ext o L Q (λ q. E.slot Q v x q · l q) (λ q. x q · l q) (λ q b. ap (λ t. t · l q) (slot-low Q v x q b))) (ap (λ t. t · l Q) (E.slot-at Q v x))
 
   module _ (w : ℕ) (l : ℕ → ℕ → M) where
-    extend : (Q : ℕ) (y z : ℕ → M) (v : M) → ((k : ℕ) → k < w → z k ≡ y k + v · l Q k) → (Spanned o All Q w l (l Q) → v ≡ O) → PivotalSpan o w l Q y → PivotalSpan o w l (suc Q) z
+    extend : (Q : ℕ) (y z : ℕ → M) (v : M) → ((k : ℕ) → k < w → z k ≡ y k + v · l Q k)
+        → (Spanned o All Q w l (l Q) → v ≡ O) → PivotalSpan o w l Q y → PivotalSpan o w l (suc Q) z
     extend Q y z v e n s = record {
       factor = E.slot Q v (s .factor);
       off = λ q h p. elim (eq-or-lt-of-le (le-of-suc-le-suc h)) [
@@ -76,7 +77,8 @@ module _ {M : Type 0} (o : RingOps M) (F : IsField o) where
         go (no n) rest = extend Q before y (f Q) split (λ p. absurd (n p)) (rest before before-spanned)
 
     -- of lists that sum to zero with x Q not zero, that at Q is a combination of the others
-    pub spanned-of-relation : (Q : ℕ) (x : ℕ → M) → ((k : ℕ) → k < w → total o (suc Q) (λ q. x q · l q k) ≡ O) → (x Q ≡ O → ⊥) → Spanned o All Q w l (l Q)
+    pub spanned-of-relation : (Q : ℕ) (x : ℕ → M) → ((k : ℕ) → k < w → total o (suc Q) (λ q. x q · l q k) ≡ O)
+        → (x Q ≡ O → ⊥) → Spanned o All Q w l (l Q)
     spanned-of-relation Q x e n =
         let c = F .inverts (x Q) n in
         record { factor = λ q. - (c .0 · x q); inside = λ j b. tt; is = λ k b. at (c .0) (c .1) k b }
@@ -91,7 +93,8 @@ module _ {M : Type 0} (o : RingOps M) (F : IsField o) where
             ∙ ap (λ t. c · t) (sym (Sums.total-last o L Q (λ q. x q · l q k)) ∙ e k b)
             ∙ Sums.product-zero o L c)
 
-    pub pivotal-unique : (Q : ℕ) (x : ℕ → M) → ((q : ℕ) → q < Q → Spanned o All q w l (l q) → x q ≡ O) → ((k : ℕ) → k < w → total o Q (λ q. x q · l q k) ≡ O) → (q : ℕ) → q < Q → x q ≡ O
+    pub pivotal-unique : (Q : ℕ) (x : ℕ → M) → ((q : ℕ) → q < Q → Spanned o All q w l (l q) → x q ≡ O)
+        → ((k : ℕ) → k < w → total o Q (λ q. x q · l q k) ≡ O) → (q : ℕ) → q < Q → x q ≡ O
     pivotal-unique zero x off e = λ q h. absurd (not-suc-le-zero h)
     pivotal-unique (suc Q) x off e = go (F .decides (x Q) O) (pivotal-unique Q x (λ q h. off q (omega arith)))
       where

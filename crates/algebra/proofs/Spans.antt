@@ -1,17 +1,17 @@
 -- Combinations of vectors of members of a field. Main results: spanned-sum, spanned-scale, spanned-total, spanned-trans (the combinations are
 -- closed), spanned-decides (whether a vector is a combination is decidable), dot-combination (a product with a combination).
-use mathlib.Core.Path.{_≡_, refl, sym, ap, ap₂, _∙_, subst}
+use mathlib.Core.Path.{_≡_, refl, sym, ap, ap₂, _∙_}
 use mathlib.Core.Logic.{_⊎_, inl, inr}
 use mathlib.Core.List.{[], _∷_}
 use Prim.Native.Nat.{ℕ, zero, suc, _≤_, _<_, zero-le, suc-le-suc}
-use native.Mathlib.Nat.{le-of-suc-le-suc, not-suc-le-zero, le-refl}
+use native.Mathlib.Nat.{le-of-suc-le-suc, not-suc-le-zero}
 use native.Mathlib.Decide.{map-dec}
 use native.Mathlib.Omega.{arith}
 use Rattle.algebra.specs.Rings.{RingOps, RingLaws, IsField}
 use Rattle.algebra.specs.Series.{total, dot}
 use Rattle.algebra.specs.Independence.{All, Domain, NotAllZero, Spanned, Independent}
 use Rattle.algebra.proofs.Sums as Sums
-use Rattle.algebra.proofs.Solver.{solve, var, 𝟎, 𝟏, _⊞_, _⊠_, neg}
+use Rattle.algebra.proofs.Solver.{solve, var, 𝟏, _⊞_, _⊠_, neg}
 use Rattle.algebra.proofs.Exchange as E
 
 -- the first N of the members x, and zeros behind them
@@ -55,7 +55,8 @@ module _ {R : Type 0} (o : RingOps R) (L : RingLaws o) where
   dot-negative n a h = Sums.total-ext o L n (λ i. a i · (- h i)) (λ i. - (a i · h i)) (λ i l. Sums.product-negative o L (a i) (h i)) ∙ Sums.total-negative o L n (λ i. a i · h i)
 
   -- the product with a combination of the vectors u
-  pub dot-combination : (n m : ℕ) (a : ℕ → R) (x : ℕ → R) (u : ℕ → ℕ → R) → dot o n a (λ i. total o m (λ j. x j · u j i)) ≡ total o m (λ j. x j · dot o n a (u j))
+  pub dot-combination : (n m : ℕ) (a : ℕ → R) (x : ℕ → R) (u : ℕ → ℕ → R)
+      → dot o n a (λ i. total o m (λ j. x j · u j i)) ≡ total o m (λ j. x j · dot o n a (u j))
   dot-combination n m a x u =
       Sums.total-ext o L n (λ i. a i · total o m (λ j. x j · u j i)) (λ i. total o m (λ j. x j · (a i · u j i)))
       (λ i l. sym (Sums.total-scale o L m (a i) (λ j. x j · u j i)) ∙ Sums.total-ext o L m (λ j. a i · (x j · u j i)) (λ j. x j · (a i · u j i)) (λ j b. Sums.product-left-comm o L (a i) (x j) (u j i)))
@@ -104,14 +105,16 @@ module _ {R : Type 0} (o : RingOps R) (L : RingLaws o) where
     }
 
     -- a combination of combinations
-    pub spanned-total : (t w s : ℕ) (v : ℕ → ℕ → R) (c : ℕ → R) (y : ℕ → ℕ → R) → ((j : ℕ) → j < s → P (c j)) → ((j : ℕ) → j < s → Spanned o P t w v (y j)) → Spanned o P t w v (λ k. total o s (λ j. c j · y j k))
+    pub spanned-total : (t w s : ℕ) (v : ℕ → ℕ → R) (c : ℕ → R) (y : ℕ → ℕ → R) → ((j : ℕ) → j < s → P (c j))
+        → ((j : ℕ) → j < s → Spanned o P t w v (y j)) → Spanned o P t w v (λ k. total o s (λ j. c j · y j k))
     spanned-total t w zero v c y i p = spanned-zero t w v
     spanned-total t w (suc s) v c y i p =
         spanned-sum t w v (λ k. c 0 · y 0 k) (λ k. total o s (λ j. c (suc j) · y (suc j) k))
         (spanned-scale t w v (c 0) (y 0) (i 0 (suc-le-suc zero-le)) (p 0 (suc-le-suc zero-le)))
         (spanned-total t w s v (λ j. c (suc j)) (λ j. y (suc j)) (λ j l. i (suc j) (suc-le-suc l)) (λ j l. p (suc j) (suc-le-suc l)))
 
-    pub spanned-trans : (t s w : ℕ) (u v : ℕ → ℕ → R) (y : ℕ → R) → ((j : ℕ) → j < s → Spanned o P t w u (v j)) → Spanned o P s w v y → Spanned o P t w u y
+    pub spanned-trans : (t s w : ℕ) (u v : ℕ → ℕ → R) (y : ℕ → R) → ((j : ℕ) → j < s → Spanned o P t w u (v j))
+        → Spanned o P s w v y → Spanned o P t w u y
     spanned-trans t s w u v y p q = spanned-ext t w u (λ k. total o s (λ j. q .factor j · v j k)) y (λ k l. sym (q .is k l)) (spanned-total t w s u (q .factor) v (q .inside) p)
 
     -- the first of independent vectors are independent
@@ -154,7 +157,8 @@ module _ {M : Type 0} (o : RingOps M) (F : IsField o) where
     abbrev rest : ℕ → M
     rest k = y (suc k) + (- (y 0 · c · v p (suc k)))
 
-    combination-others : (f : ℕ → M) (k : ℕ) → total o t (λ j. f j · others j k) ≡ total o t (λ j. f j · v (E.skip p j) (suc k)) + (- (total o t (λ j. f j · v (E.skip p j) 0) · c · v p (suc k)))
+    combination-others : (f : ℕ → M) (k : ℕ)
+        → total o t (λ j. f j · others j k) ≡ total o t (λ j. f j · v (E.skip p j) (suc k)) + (- (total o t (λ j. f j · v (E.skip p j) 0) · c · v p (suc k)))
     combination-others f k =
         Sums.total-ext o L t (λ j. f j · others j k) (λ j. f j · v (E.skip p j) (suc k) + f j · v (E.skip p j) 0 · (- (c · v p (suc k))))
         (λ j b. solve o L (f j ∷ v (E.skip p j) (suc k) ∷ v (E.skip p j) 0 ∷ c ∷ v p (suc k) ∷ []) (var 0 ⊠ (var 1 ⊞ neg (var 2 ⊠ var 3 ⊠ var 4))) (var 0 ⊠ var 1 ⊞ var 0 ⊠ var 2 ⊠ neg (var 3 ⊠ var 4)) refl)
@@ -211,7 +215,9 @@ module _ {M : Type 0} (o : RingOps M) (F : IsField o) where
   spanned-decides (suc w) zero v y = decide-tail zero w v y (λ j l. absurd (not-suc-le-zero l)) (F .decides (y 0) O) (spanned-decides w zero (λ j k. v j (suc k)) (λ k. y (suc k)))
   spanned-decides (suc w) (suc t) v y = go (E.all-zero-or-not o L All (E.domain-of-field o F) (suc t) (λ j. v j 0) (λ j l. tt)) (spanned-decides w t) (spanned-decides w (suc t) (λ j k. v j (suc k)) (λ k. y (suc k)))
     where
-      go : ((j : ℕ) → j < suc t → v j 0 ≡ O) ⊎ NotAllZero o (suc t) (λ j. v j 0) → ((u : ℕ → ℕ → M) (x : ℕ → M) → Dec (Spanned o All t w u x)) → Dec (Spanned o All (suc t) w (λ j k. v j (suc k)) (λ k. y (suc k))) → Dec (Spanned o All (suc t) (suc w) v y)
+      go : ((j : ℕ) → j < suc t → v j 0 ≡ O) ⊎ NotAllZero o (suc t) (λ j. v j 0)
+          → ((u : ℕ → ℕ → M) (x : ℕ → M) → Dec (Spanned o All t w u x))
+          → Dec (Spanned o All (suc t) w (λ j k. v j (suc k)) (λ k. y (suc k))) → Dec (Spanned o All (suc t) (suc w) v y)
       go (inl z) fewer tails = decide-tail (suc t) w v y z (F .decides (y 0) O) tails
       go (inr r) fewer tails =
           let c = F .inverts (v (r .place) 0) (r .nonzero) in

@@ -1,11 +1,10 @@
 -- Finite sums in a commutative ring. Main results: total-sum and total-scale (linearity), total-swap, total-split, total-one (one nonzero
 -- term), total-skip (one term taken out).
 use mathlib.Core.Path.{_≡_, refl, sym, ap, ap₂, _∙_}
-use Prim.Native.Nat.{ℕ, zero, suc, _≤_, _<_, zero-le, suc-le-suc, _+_ as _plus_}
+use Prim.Native.Nat.{ℕ, zero, suc, _<_, zero-le, suc-le-suc, _+_ as _plus_}
 use native.Mathlib.Nat.{suc-add, zero-add, le-of-suc-le-suc, not-suc-le-zero, suc-ne-zero, suc-inj}
-use native.Mathlib.Omega.{arith}
 use Rattle.algebra.specs.Rings.{RingOps, RingLaws}
-use Rattle.algebra.specs.Series.{total, dot}
+use Rattle.algebra.specs.Series.{total}
 
 module _ {R : Type 0} (o : RingOps R) (L : RingLaws o) where
   open RingOps o using (zero as 𝟘, one as 𝟙, sum as _+_, negative as -_, product as _·_)

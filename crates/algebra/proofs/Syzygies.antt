@@ -1,24 +1,23 @@
 -- Syzygies of a row by their leading places. Main results: vector-of-relation, syzygy-of-nonpivotal and nonpivotal-of-syzygy (a place is
 -- non-pivotal when a syzygy has it as leading place), reduce (division by vectors with leading places), one-of-two-classes,
 -- not-every-class, classes (exactly one class has no non-pivotal place).
-use mathlib.Core.Path.{_≡_, refl, sym, ap, ap₂, _∙_, subst, fun-ext}
+use mathlib.Core.Path.{_≡_, refl, sym, ap, ap₂, _∙_, fun-ext}
 use mathlib.Core.Logic.{_⊎_, inl, inr}
 use mathlib.Core.List.{[], _∷_}
-use Prim.Native.Nat.{ℕ, zero, suc, _≤_, _<_, zero-le, suc-le-suc, _*_, _/_, _%_, _-_, _+_ as _plus_}
-use native.Mathlib.Nat.{le-of-suc-le-suc, not-suc-le-zero, le-refl, eq-or-lt-of-le, mod-lt, div-add-mod, mul-suc, mul-le-mul-left, mul-add, mul-zero, add-zero}
-use native.Mathlib.Decide.{decLe, decLt, ℕ-discrete}
+use Prim.Native.Nat.{ℕ, zero, suc, _≤_, _<_, _*_, _/_, _%_, _-_, _+_ as _plus_}
+use native.Mathlib.Nat.{le-refl, mod-lt, div-add-mod, mul-suc, mul-add, mul-zero}
+use native.Mathlib.Decide.{decLt, ℕ-discrete}
 use native.Mathlib.Omega.{arith}
 use Rattle.algebra.specs.Rings.{RingOps, RingLaws, IsField}
-use Rattle.algebra.specs.Series.{total, dot, constant, series, shift, scale, Below, Degree, Polynomial}
+use Rattle.algebra.specs.Series.{total, dot, constant, series, shift, Below}
 use Rattle.algebra.specs.Divisors.{Bounded, VectorDegree, AllZero}
-use Rattle.algebra.specs.Independence.{All, Domain, Spanned}
+use Rattle.algebra.specs.Independence.{All, Domain}
 use Rattle.algebra.specs.Places.{place-list, NonPivotal}
 use Rattle.algebra.proofs.Sums as Sums
-use Rattle.algebra.proofs.Solver.{solve, var, 𝟎, 𝟏, _⊞_, _⊠_, neg}
+use Rattle.algebra.proofs.Solver.{solve, var, 𝟎, _⊞_, _⊠_, neg}
 use Rattle.algebra.proofs.Series as S
 use Rattle.algebra.proofs.Fields as Fields
 use Rattle.algebra.proofs.Bounds as B
-use Rattle.algebra.proofs.Degrees as D
 use Rattle.algebra.proofs.Exchange as E
 use Rattle.algebra.proofs.Spans as Spans
 use Rattle.algebra.proofs.Pivots as Pivots
@@ -58,7 +57,9 @@ module _ {M : Type 0} (o : RingOps M) (F : IsField o) (n : ℕ) (positive : zero
 
   module _ (d : ℕ) (r : ℕ → ℕ → M) (r-bounded : Bounded o n (suc d) r) where
     -- a combination of the lists below Q, as a vector of degree at most d
-    pub vector-of-relation : (Q : ℕ) (x f : ℕ → M) → Q ≤ n * suc d → Below o (suc (d plus d)) f → ((k : ℕ) → k < suc (d plus d) → total o Q (λ q. x q ⊙ place-list o n r q k) ≡ f k) → dot (series o) n r (spread n (Spans.cut o Q x)) ≡ f
+    pub vector-of-relation : (Q : ℕ) (x f : ℕ → M) → Q ≤ n * suc d → Below o (suc (d plus d)) f
+        → ((k : ℕ) → k < suc (d plus d) → total o Q (λ q. x q ⊙ place-list o n r q k) ≡ f k)
+        → dot (series o) n r (spread n (Spans.cut o Q x)) ≡ f
     vector-of-relation Q x f l b e = fun-ext coefficients
       where
         bounded : Bounded o n (suc d) (spread n (Spans.cut o Q x))
@@ -74,7 +75,9 @@ module _ {M : Type 0} (o : RingOps M) (F : IsField o) (n : ℕ) (positive : zero
     abbrev pub relation-vector : ℕ → (ℕ → M) → ℕ → ℕ → M
     relation-vector q f = spread n (Spans.cut o (suc q) (E.slot q I (λ j. minus (f j))))
 
-    pub relation-syzygy : (q : ℕ) (f : ℕ → M) → q < n * suc d → ((k : ℕ) → k < suc (d plus d) → place-list o n r q k ≡ total o q (λ j. f j ⊙ place-list o n r j k)) → dot (series o) n r (relation-vector q f) ≡ 𝟘
+    pub relation-syzygy : (q : ℕ) (f : ℕ → M) → q < n * suc d
+        → ((k : ℕ) → k < suc (d plus d) → place-list o n r q k ≡ total o q (λ j. f j ⊙ place-list o n r j k))
+        → dot (series o) n r (relation-vector q f) ≡ 𝟘
     relation-syzygy q f h e =
         vector-of-relation (suc q) (E.slot q I (λ j. minus (f j))) 𝟘 h (B.below-zero o L (suc (d plus d)))
         (λ k b.
@@ -153,7 +156,8 @@ module _ {M : Type 0} (o : RingOps M) (F : IsField o) (n : ℕ) (positive : zero
         class q x (no e) (yes f) = inr f
         class q x (no e) (no f) = absurd (x (ap (λ (t : ℕ → M). t (q / n)) (ap₂ _+_ (E.slot-off i (r j) 𝟘 (q % n) e) (E.slot-off j (- r i) 𝟘 (q % n) f) ∙ SL .sum-zero 𝟘)))
 
-        go : AllZero o n (cross i j) ⊎ ((q : ℕ) × (q < n * suc d) × (at n (cross i j) q ≡ O → ⊥) × BelowPlace o n (suc q) (cross i j)) → (q : ℕ) × (q < n * suc d) × SyzygyAt o n r q × ((q % n ≡ i) ⊎ (q % n ≡ j))
+        go : AllZero o n (cross i j) ⊎ ((q : ℕ) × (q < n * suc d) × (at n (cross i j) q ≡ O → ⊥) × BelowPlace o n (suc q) (cross i j))
+            → (q : ℕ) × (q < n * suc d) × SyzygyAt o n r q × ((q % n ≡ i) ⊎ (q % n ≡ j))
         go (inl z) =
             let zero-i : r i ≡ 𝟘 = sym (Sums.negative-negative (series o) SL (r i)) ∙ ap -_ (sym at-j ∙ z j b) ∙ Sums.negative-zero (series o) SL in
             let s = mul-suc n d in
@@ -189,7 +193,8 @@ module _ {M : Type 0} (o : RingOps M) (F : IsField o) (n : ℕ) (positive : zero
         h : ℕ → ℕ → M
         h = E.slot c (shift o T 𝟙) (λ i. 𝟘)
 
-        cover : (Q : ℕ) → T ≤ Q → (e : ℕ → ℕ → M) → Unit {0} → BelowPlace o n (suc Q) e → (at n e Q ≡ O → ⊥) → (j : ℕ) × (j < n) × (e : ℕ) × (Q ≡ p j plus n * e)
+        cover : (Q : ℕ) → T ≤ Q → (e : ℕ → ℕ → M) → Unit {0} → BelowPlace o n (suc Q) e → (at n e Q ≡ O → ⊥)
+            → (j : ℕ) × (j < n) × (e : ℕ) × (Q ≡ p j plus n * e)
         cover Q l e z b x =
             let i = Q % n in
             let a = mod-lt Q positive in

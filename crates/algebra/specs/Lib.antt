@@ -6,3 +6,5 @@ pub mod Theorems
 pub mod Places
 pub mod Frames
 pub mod Optimal
+pub mod DegreeTest
+pub mod Link
