@@ -25,4 +25,5 @@ pub mod TestPassed
 pub mod TestExact
 pub mod Link
 pub mod Certificates
+pub mod ComputedFrames
 pub mod Theorems
