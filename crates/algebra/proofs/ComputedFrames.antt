@@ -1,4 +1,5 @@
--- A computed test that listed columns are the frame of a listed row, over numbered members. Main result: frame-by-test. For a row a, its divisor
+-- Computed tests over numbered members: that listed columns are the frame of a listed row, that a listed block encodes a listed message. Main
+-- results: frame-by-test, frames-by-tests (for a list of designs with hints), encodes-by-test. For a row a, its divisor
 -- g of degree e, the divided row r of degree d with r_q of that degree, columns c and the leading places p of the check columns, all of fewer than S
 -- coefficients, frame-by-test N F m a g e r d q c p S tt is a proof that c is the frame.
 use mathlib.Core.Path.{_≡_, refl, sym, ap, ap₂, _∙_, subst, fun-ext}
@@ -13,7 +14,8 @@ use Rattle.algebra.specs.Rings.{RingOps, RingLaws, Numbering, IsField}
 use Rattle.algebra.specs.Series.{sum-below, dot, series, Below, Polynomial}
 use Rattle.algebra.specs.Divisors.{Bounded, Monic, DividedRow, VectorDegree}
 use Rattle.algebra.specs.Frames.{IsFrame}
-use Rattle.algebra.specs.Lists.{listed, listed-row, listed-columns}
+use Rattle.algebra.specs.Link.{Encodes}
+use Rattle.algebra.specs.Lists.{listed, listed-row, listed-columns, listed-block, Design, each, AllFrames}
 use Rattle.algebra.proofs.Bounds as B
 use Rattle.algebra.proofs.Places as Places
 use Rattle.algebra.proofs.Syzygies as Syzygies
@@ -339,3 +341,94 @@ module _ {M : Type 0} {o : RingOps M} {order : ℕ} {number : M → ℕ} (N : Nu
 
     pub frame-by-test : IsFrame o m a g d c
     frame-by-test = Certificates.frame-of-certificate o F m a g d c r p certificate
+
+-- what a test of a design needs besides: the degree of the divisor, the divided row, a component of its highest degree, the leading places of
+-- the check columns, and a bound on the number of coefficients
+pub record Hint : Type 0 where
+  pub divisor-degree : ℕ
+  pub row : List (List ℕ)
+  pub component : ℕ
+  pub places : List ℕ
+  pub bound : ℕ
+
+-- the list's entries, and 0 behind them
+abbrev pub nth : List ℕ → ℕ → ℕ
+nth [] j = 0
+nth (x ∷ xs) zero = x
+nth (x ∷ xs) (suc j) = nth xs j
+
+module _ {M : Type 0} {o : RingOps M} {order : ℕ} {number : M → ℕ} (N : Numbering o order number) (F : IsField o) (member : ℕ → M) where
+  abbrev pub design-test : Design → Hint → Bool
+  design-test w h = frame-test N F (w .m) (each (each member) (w .generators)) (each member (w .divisor)) (h .divisor-degree) (each (each member) (h .row)) (w .degree) (h .component) (each (each (each member)) (w .columns)) (nth (h .places)) (h .bound)
+
+  -- each design passes the test with its hint
+  abbrev pub Tests : List Design → List Hint → Type 0
+  Tests [] hs = Unit {0}
+  Tests (w ∷ ws) [] = ⊥
+  Tests (w ∷ ws) (h ∷ hs) = T (design-test w h) × Tests ws hs
+
+  pub frames-by-tests : (ws : List Design) (hs : List Hint) → Tests ws hs → AllFrames o member ws
+  frames-by-tests [] hs t = tt
+  frames-by-tests (w ∷ ws) [] t = absurd t
+  frames-by-tests (w ∷ ws) (h ∷ hs) t = (
+    frame-by-test N F (w .m) (each (each member) (w .generators)) (each member (w .divisor)) (h .divisor-degree) (each (each member) (h .row)) (w .degree) (h .component) (each (each (each member)) (w .columns)) (nth (h .places)) (h .bound) (t .0),
+    frames-by-tests ws hs (t .1),
+  )
+
+  -- a listed block of n streams is what a listed message of K symbols encodes to, all of fewer than S coefficients
+  abbrev pub encodes-test : (n : ℕ) → List (List M) → ℕ → List M → List M → ℕ → Bool
+  encodes-test n rows K message block S =
+      ltb 0 n and leb (size message) K and leb K S and row-fits o S rows and leb (size block) S
+      and all-below n (λ i. all-below (S plus S) (λ k. eqb (number (listed-block o n block i k)) (number (series o .product (listed o message) (listed-row o rows i) k))))
+
+  pub encodes-by-test : (n : ℕ) (rows : List (List M)) (K : ℕ) (message block : List M) (S : ℕ) → T (encodes-test n rows K message block S) → Encodes o n (listed-row o rows) K (listed o message) (listed-block o n block)
+  encodes-by-test n rows K message block S t = record { length = listed-below o message K message-fits; is = streams }
+    where
+      L : RingLaws o
+      L = F .laws .ring
+
+      row-test : Bool
+      row-test = row-fits o S rows
+
+      block-test : Bool
+      block-test = leb (size block) S
+
+      coefficient-test : Bool
+      coefficient-test = all-below n (λ i. all-below (S plus S) (λ k. eqb (number (listed-block o n block i k)) (number (series o .product (listed o message) (listed-row o rows i) k))))
+
+      t₁ : T (leb (size message) K and leb K S and row-test and block-test and coefficient-test)
+      t₁ = both-right (ltb 0 n) (leb (size message) K and leb K S and row-test and block-test and coefficient-test) t
+
+      t₂ : T (leb K S and row-test and block-test and coefficient-test)
+      t₂ = both-right (leb (size message) K) (leb K S and row-test and block-test and coefficient-test) t₁
+
+      t₃ : T (row-test and block-test and coefficient-test)
+      t₃ = both-right (leb K S) (row-test and block-test and coefficient-test) t₂
+
+      t₄ : T (block-test and coefficient-test)
+      t₄ = both-right row-test (block-test and coefficient-test) t₃
+
+      positive : 0 < n
+      positive = ltb→lt 0 n (both-left (ltb 0 n) (leb (size message) K and leb K S and row-test and block-test and coefficient-test) t)
+
+      message-fits : T (leb (size message) K)
+      message-fits = both-left (leb (size message) K) (leb K S and row-test and block-test and coefficient-test) t₁
+
+      message-below : Below o S (listed o message)
+      message-below = B.below-mono o L K S (listed o message) (leb→le K S (both-left (leb K S) (row-test and block-test and coefficient-test) t₂)) (listed-below o message K message-fits)
+
+      block-below : (i : ℕ) → Below o (S plus S) (listed-block o n block i)
+      block-below i k l = listed-below o block S (both-left block-test coefficient-test t₄) (n * k plus i) (let h = Places.le-times n k positive in omega arith)
+
+      streams : (i : ℕ) → i < n → listed-block o n block i ≡ series o .product (listed o message) (listed-row o rows i)
+      streams i l = fun-ext (λ k. at k (decLt k (S plus S)))
+        where
+          product-below : Below o (S plus S) (series o .product (listed o message) (listed-row o rows i))
+          product-below = B.below-product o L S S (S plus S) (listed o message) (listed-row o rows i) (omega arith) message-below (row-below o rows S (both-left row-test (block-test and coefficient-test) t₃) i)
+
+          at : (k : ℕ) → Dec (k < S plus S) → listed-block o n block i k ≡ series o .product (listed o message) (listed-row o rows i) k
+          at k (yes h) =
+              N .apart (listed-block o n block i k) (series o .product (listed o message) (listed-row o rows i) k)
+              (eqb→eq (number (listed-block o n block i k)) (number (series o .product (listed o message) (listed-row o rows i) k))
+              (all-below-at (S plus S) (λ k. eqb (number (listed-block o n block i k)) (number (series o .product (listed o message) (listed-row o rows i) k))) (all-below-at n (λ i. all-below (S plus S) (λ k. eqb (number (listed-block o n block i k)) (number (series o .product (listed o message) (listed-row o rows i) k)))) (both-right block-test coefficient-test t₄) i l) k h))
+          at k (no h) = block-below i k (omega arith) ∙ sym (product-below k (omega arith))
