@@ -2,17 +2,17 @@
 -- results: frame-by-test, frames-by-tests (for a list of designs with hints), encodes-by-test. For a row a, its divisor
 -- g of degree e, the divided row r of degree d with r_q of that degree, columns c and the leading places p of the check columns, all of fewer than S
 -- coefficients, frame-by-test N F m a g e r d q c p S tt is a proof that c is the frame.
-use mathlib.Core.Path.{_≡_, refl, sym, ap, ap₂, _∙_, subst, fun-ext}
+use mathlib.Core.Path.{_≡_, refl, sym, ap, _∙_, subst, fun-ext}
 use mathlib.Core.Bool.{Bool, true, false, not}
 use mathlib.Core.List.{List, [], _∷_}
 use Prim.Native.Nat.{ℕ, zero, suc, _≤_, _<_, zero-le, suc-le-suc, _*_, _/_, _%_, _+_ as _plus_}
-use native.Mathlib.Nat.{le-of-suc-le-suc, not-suc-le-zero, mod-lt, add-mul-mod-self-left}
+use native.Mathlib.Nat.{le-of-suc-le-suc, not-suc-le-zero, add-mul-mod-self-left}
 use native.Mathlib.Decide.{decLt}
 use native.Mathlib.Omega.{arith}
 use lib.Dec.{T, leb, ltb, eqb, leb→le, ltb→lt, lt→ltb, le→leb, eqb→eq, eqb-refl, T-not, not-T}
 use Rattle.algebra.specs.Rings.{RingOps, RingLaws, Numbering, IsField}
-use Rattle.algebra.specs.Series.{sum-below, dot, series, Below, Polynomial}
-use Rattle.algebra.specs.Divisors.{Bounded, Monic, DividedRow, VectorDegree}
+use Rattle.algebra.specs.Series.{sum-below, dot, series, Below}
+use Rattle.algebra.specs.Divisors.{Monic, DividedRow, VectorDegree}
 use Rattle.algebra.specs.Frames.{IsFrame}
 use Rattle.algebra.specs.Link.{Encodes}
 use Rattle.algebra.specs.Lists.{listed, listed-row, listed-columns, listed-block, Design, each, AllFrames}
@@ -381,7 +381,9 @@ module _ {M : Type 0} {o : RingOps M} {order : ℕ} {number : M → ℕ} (N : Nu
       ltb 0 n and leb (size message) K and leb K S and row-fits o S rows and leb (size block) S
       and all-below n (λ i. all-below (S plus S) (λ k. eqb (number (listed-block o n block i k)) (number (series o .product (listed o message) (listed-row o rows i) k))))
 
-  pub encodes-by-test : (n : ℕ) (rows : List (List M)) (K : ℕ) (message block : List M) (S : ℕ) → T (encodes-test n rows K message block S) → Encodes o n (listed-row o rows) K (listed o message) (listed-block o n block)
+  pub encodes-by-test : (n : ℕ) (rows : List (List M)) (K : ℕ) (message block : List M) (S : ℕ)
+      → T (encodes-test n rows K message block S)
+      → Encodes o n (listed-row o rows) K (listed o message) (listed-block o n block)
   encodes-by-test n rows K message block S t = record { length = listed-below o message K message-fits; is = streams }
     where
       L : RingLaws o

@@ -1,3 +1,4 @@
+pub mod Rows
 pub mod Sums
 pub mod Solver
 pub mod Series
