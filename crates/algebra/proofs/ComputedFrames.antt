@@ -1,6 +1,6 @@
--- Computed tests over numbered members: that listed columns are the frame of a listed row, that a listed block encodes a listed message. Main
--- results: frame-by-test, frames-by-tests (for a list of designs with hints), encodes-by-test. For a row a, its divisor
--- g of degree e, the divided row r of degree d with r_q of that degree, columns c and the leading places p of the check columns, all of fewer than S
+-- Computed tests over numbered members: that listed columns are the frame of a listed row, that a listed block encodes a listed message.
+-- Main results: frame-by-test, frames-by-tests (for a list of designs with hints), encodes-by-test. For a row a, its divisor g of degree e,
+-- the divided row r of degree d with r_q of that degree, columns c and the leading places p of the check columns, all of at most S
 -- coefficients, frame-by-test N F m a g e r d q c p S tt is a proof that c is the frame.
 use mathlib.Core.Path.{_≡_, refl, sym, ap, _∙_, subst, fun-ext}
 use mathlib.Core.Bool.{Bool, true, false, not}

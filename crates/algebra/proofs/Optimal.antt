@@ -1,5 +1,6 @@
 -- The frame columns are degree-optimal. Main results: exactly-one-sum (the check columns are a basis with predictable degrees), least-degrees
--- (one by one), first-least (column 0 has least degree), check-degrees and check-degrees-sum (the check degrees add up to d).
+-- (one by one), first-least (column 0 has least degree), check-degree and check-degrees-sum (the check degrees add up to d),
+-- top-spanned (the top coefficients of a syzygy are a combination of leading vectors).
 use mathlib.Core.Path.{_≡_, sym, ap, ap₂, _∙_, subst, fun-ext}
 use Prim.Native.Nat.{ℕ, zero, suc, _≤_, _<_, zero-le, suc-le-suc, _*_, _/_, _%_, _-_, _+_ as _plus_}
 use native.Mathlib.Nat.{le-refl, mod-lt, div-add-mod, mul-add, mul-le-mul-left, add-zero}

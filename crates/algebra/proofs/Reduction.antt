@@ -1,5 +1,5 @@
--- Division of vectors of polynomials by vectors with leading places. Main results: leading-multiple (the leading place of c s^e u), leading-place
--- (a vector is zero or has a leading place), reduce (a vector is a combination of the divisors and a remainder below a place).
+-- Division of vectors of polynomials by vectors with leading places. Main results: multiple-below and multiple-leading (the leading place of
+-- c s^e u), leading-place (a vector is zero or has a leading place), reduce (a vector is a combination of the divisors and a remainder below a place).
 use mathlib.Core.Path.{_≡_, refl, sym, ap, ap₂, _∙_, subst, fun-ext}
 use mathlib.Core.Logic.{_⊎_, inl, inr}
 use mathlib.Core.List.{[], _∷_}

@@ -1,6 +1,6 @@
 -- Syzygies of a row by their leading places. Main results: vector-of-relation, syzygy-of-nonpivotal and nonpivotal-of-syzygy (a place is
--- non-pivotal when a syzygy has it as leading place), reduce (division by vectors with leading places), one-of-two-classes,
--- not-every-class, classes (exactly one class has no non-pivotal place).
+-- non-pivotal when a syzygy has it as leading place), one-of-two-classes (one of two classes has a syzygy with its leading place in it),
+-- not-every-class.
 use mathlib.Core.Path.{_≡_, refl, sym, ap, ap₂, _∙_, fun-ext}
 use mathlib.Core.Logic.{_⊎_, inl, inr}
 use mathlib.Core.List.{[], _∷_}
