@@ -1,0 +1,2 @@
+pub mod StepMaps
+pub mod Columns

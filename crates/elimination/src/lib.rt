@@ -1,0 +1,2 @@
+// Gauss-Jordan elimination, one column at a time, in lent tables.
+pub mod steps;
