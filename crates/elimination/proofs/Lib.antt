@@ -1,2 +1,3 @@
 pub mod StepMaps
 pub mod Columns
+pub mod Tables

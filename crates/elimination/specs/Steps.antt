@@ -1,7 +1,13 @@
 -- Elimination on vectors: one step, the steps one after the other, and what makes steps good. Vectors are functions of the row.
+use mathlib.Core.Bool.{Bool, true, false}
+use mathlib.Core.List.{List}
 use mathlib.Core.Path.{_≡_}
-use Prim.Native.Nat.{ℕ, zero, suc, _≤_, _<_}
+use Prim.Native.Nat.{ℕ, zero, suc, _+_, _*_, _≤_, _<_}
+use lib.ListN.{getD}
 use Rattle.algebra.specs.Rings.{RingOps}
+use Rattle.algebra.specs.Series.{total}
+use Rattle.algebra.specs.Independence.{All, Spanned}
+use Rattle.tables.specs.Places.{at}
 
 -- x at place k, f elsewhere
 abbrev pub write : {A : Type 0} → ℕ → A → (ℕ → A) → ℕ → A
@@ -45,3 +51,34 @@ AreSteps o rows rank e p = (t : ℕ) → t < rank → IsStep o rows t (e t) (p t
 -- the steps turn V 0 .. V (rank - 1) into the unit vectors
 abbrev pub Reduces : {M : Type 0} → RingOps M → ℕ → ℕ → (ℕ → ℕ → M) → (ℕ → ℕ) → (ℕ → ℕ → M) → Type 0
 Reduces o rows rank e p V = (t : ℕ) → t < rank → reduced o e p rank (front o rows (V t)) ≡ unit-vector o t
+
+-- the first entry of u from row t on that is not zero stands at row p, and i is its inverse
+pub record IsPivot {M : Type 0} (o : RingOps M) (rows t : ℕ) (u : ℕ → M) (p : ℕ) (i : M) : Type 0 where
+  pub low : t ≤ p
+  pub within : p < rows
+  pub inverse : o .product (u p) i ≡ o .one
+  pub zeros : (r : ℕ) → t ≤ r → r < p → u r ≡ o .zero
+
+-- the numbers of step t in a table, in which each step has so many rows
+abbrev pub factors-at : {F M : Type 0} → RingOps M → (F → M) → ℕ → List F → ℕ → ℕ → M
+factors-at o member rows steps t = front o rows (λ r. at o member steps (rows * t + r))
+
+-- the pivot rows in a list
+abbrev pub row-at : List ℕ → ℕ → ℕ
+row-at pivots t = getD pivots t 0
+
+-- how many steps there are after a column, by whether it is pivotal
+abbrev pub rank-after : ℕ → Bool → ℕ
+rank-after rank true = suc rank
+rank-after rank false = rank
+
+-- the pivot columns after a column c, by whether it is pivotal
+abbrev pub pivots-after : {M : Type 0} → ℕ → (ℕ → ℕ → M) → (ℕ → M) → Bool → ℕ → ℕ → M
+pivots-after rank V c true = write rank c V
+pivots-after rank V c false = V
+
+-- A column c, after the pivot columns V 0 .. V (rank - 1): it is pivotal when it is no sum of multiples of these. If it is one, the reduced column E has
+-- the multipliers.
+abbrev pub Judged : {M : Type 0} → RingOps M → ℕ → ℕ → (ℕ → ℕ → M) → (ℕ → M) → (ℕ → M) → Bool → Type 0
+Judged o rows rank V c E true = Spanned o All rank rows V c → ⊥
+Judged o rows rank V c E false = (r : ℕ) → r < rows → c r ≡ total o rank (λ t. o .product (E t) (V t r))

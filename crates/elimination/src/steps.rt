@@ -2,8 +2,9 @@
 ghost use mathlib.Core.Path.{_≡_};
 ghost use Prim.Native.Nat.{ℕ, _+_, _*_, _<_, _≤_};
 ghost use lib.ListN.{length, take, drop};
+ghost use Rattle.std.specs.Options.{Cases};
 ghost use Rattle.tables.specs.Places.{at};
-ghost use Rattle.elimination.specs.Steps.{step as after-step};
+ghost use Rattle.elimination.specs.Steps.{step as after-step, reduced, factors-at, row-at, write, AreSteps, IsPivot};
 use fields::field::Field;
 
 // Takes x times the factors from the column, row by row.
@@ -28,4 +29,61 @@ pub fn apply_step<F: Field>(factors: &[F], t: usize, p: usize, column: &mut [F])
     subtract_multiple(factors, product, column);
     column[p] = exchanged;
     column[t] = product;
+}
+
+// The numbers of step t.
+fn factors<F: Field>(rows: usize, steps: &[F], t: usize) -> &[F]
+    requires { ⌜ rows * t + rows ≤ length (now steps) ⌝ }
+    ensures value { λ r. ⌜ at ops member (now r) ≡ factors-at ops member rows (now (steps .entry)) t ⌝ }
+    ensures len { λ r. ⌜ length (now r) ≡ rows ⌝ }
+{
+    &steps[rows * t..rows * t + rows]
+}
+
+// Brings a column up to date by the steps found so far.
+pub fn reduce<F: Field>(rows: usize, rank: usize, steps: &[F], pivots: &[usize], column: &mut [F])
+    requires room { ⌜ rows * rank ≤ length (now steps) ⌝ ∗ ⌜ rank ≤ length (now pivots) ⌝ ∗ ⌜ length (now column) ≡ rows ⌝ }
+    requires are { ⌜ AreSteps ops rows rank (factors-at ops member rows (now steps)) (row-at (now pivots)) ⌝ }
+    ensures { λ _. ⌜ at ops member (now (column .exit)) ≡ reduced ops (factors-at ops member rows (now (steps .entry))) (row-at (now (pivots .entry))) rank (at ops member (now (column .entry))) ⌝ }
+{
+    for t in 0..rank {
+        apply_step(factors(rows, steps, t), t, pivots[t], column);
+    }
+}
+
+// A row in which a column has an entry that is not zero, and the inverse of the entry.
+#[derive(Clone, Copy)]
+pub struct Pivot<F: Field> {
+    row: usize,
+    inverse: F,
+}
+
+// The first pivot of a column from a row on.
+pub fn find_pivot<F: Field>(column: &[F], rank: usize) -> Option<Pivot<F>>
+    ensures { λ r. ⌜ Cases r ((k : ℕ) → rank ≤ k → at ops member (now (column .entry)) k ≡ ops .zero) (λ p. IsPivot ops (length (now (column .entry))) rank (at ops member (now (column .entry))) (p .row) (member (p .inverse))) ⌝ }
+{
+    for r in rank..column.len() {
+        if let Some(inverse) = column[r].inverse() {
+            return Some(Pivot { row: r, inverse });
+        }
+    }
+    None
+}
+
+// Writes the step of a reduced column and its pivot behind the steps found so far.
+pub fn record_step<F: Field>(
+    rows: usize,
+    rank: usize,
+    steps: &mut [F],
+    column: &[F],
+    pivot: Pivot<F>,
+)
+    requires room { ⌜ rows * rank + rows ≤ length (now steps) ⌝ ∗ ⌜ length (now column) ≡ rows ⌝ ∗ ⌜ pivot .row < rows ⌝ }
+    ensures here { λ _. ⌜ factors-at ops member rows (now (steps .exit)) rank ≡ write (pivot .row) (member (pivot .inverse)) (at ops member (now (column .entry))) ⌝ }
+    ensures others { λ _. ⌜ ((k : ℕ) → k < rows * rank → at ops member (now (steps .exit)) k ≡ at ops member (now (steps .entry)) k) ⌝ }
+{
+    for r in 0..rows {
+        steps[rows * rank + r] = column[r];
+    }
+    steps[rows * rank + pivot.row] = pivot.inverse;
 }
