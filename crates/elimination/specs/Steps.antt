@@ -77,8 +77,12 @@ abbrev pub pivots-after : {M : Type 0} → ℕ → (ℕ → ℕ → M) → (ℕ 
 pivots-after rank V c true = write rank c V
 pivots-after rank V c false = V
 
--- A column c, after the pivot columns V 0 .. V (rank - 1): it is pivotal when it is no sum of multiples of these. If it is one, the reduced column E has
--- the multipliers.
+-- the column c is the sum of the pivot columns V 0 .. V (rank - 1) times the entries of the reduced column E, which is zero from row rank on
+pub record IsSum {M : Type 0} (o : RingOps M) (rows rank : ℕ) (V : ℕ → ℕ → M) (c E : ℕ → M) : Type 0 where
+  pub is : (r : ℕ) → r < rows → c r ≡ total o rank (λ t. o .product (E t) (V t r))
+  pub zeros : (r : ℕ) → rank ≤ r → E r ≡ o .zero
+
+-- a column c after the pivot columns V 0 .. V (rank - 1) is pivotal when it is no sum of multiples of these
 abbrev pub Judged : {M : Type 0} → RingOps M → ℕ → ℕ → (ℕ → ℕ → M) → (ℕ → M) → (ℕ → M) → Bool → Type 0
 Judged o rows rank V c E true = Spanned o All rank rows V c → ⊥
-Judged o rows rank V c E false = (r : ℕ) → r < rows → c r ≡ total o rank (λ t. o .product (E t) (V t r))
+Judged o rows rank V c E false = IsSum o rows rank V c E

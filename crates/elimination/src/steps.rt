@@ -54,8 +54,8 @@ pub fn reduce<F: Field>(rows: usize, rank: usize, steps: &[F], pivots: &[usize],
 // A row in which a column has an entry that is not zero, and the inverse of the entry.
 #[derive(Clone, Copy)]
 pub struct Pivot<F: Field> {
-    row: usize,
-    inverse: F,
+    pub row: usize,
+    pub inverse: F,
 }
 
 // The first pivot of a column from a row on.
