@@ -8,7 +8,7 @@ ghost use Rattle.algebra.specs.Divisors.{Divides, AllZero};
 ghost use Rattle.algebra.specs.Series.{series, Degree};
 ghost use Rattle.tables.specs.Places.{Cleared, Kept};
 ghost use Rattle.frames.specs.Common.{GcdOfFirst, MadeMonic};
-ghost use Rattle.frames.specs.Rows.{generator-in, gcd-in, quotient-in, ZeroOutside, Larger, Highest, DividedByGcd};
+ghost use Rattle.frames.specs.Rows.{generator-in, gcd-in, quotient-in, row-in, ZeroOutside, Larger, Highest, DividedByGcd};
 use crate::euclid::euclid;
 use fields::field::Field;
 use tables::cells::inverse_at;
@@ -98,14 +98,15 @@ fn larger(d: usize, found: Option<usize>) -> usize
     }
 }
 
-// The highest degree of the divided row; 0 where every polynomial is zero.
-fn row_degree<F: Field>(n: usize, work: &[F]) -> usize
-    requires { ⌜ n ≤ 8 ⌝ ∗ ⌜ length (now work) ≡ 4521 ⌝ }
-    ensures { λ r. ⌜ Highest ops n (quotient-in ops member (now (work .entry))) r ⌝ }
+// The highest degree of n polynomials that stand one behind the other from a place on; 0 where every one is zero.
+pub fn row_degree<F: Field>(n: usize, table: &[F], base: usize) -> usize
+    requires { ⌜ base + 17 * n ≤ length (now table) ⌝ }
+    ensures value { λ r. ⌜ Highest ops n (row-in ops member (now (table .entry)) base) r ⌝ }
+    ensures bound { λ r. ⌜ r ≤ 16 ⌝ }
 {
     let mut d = 0;
     for i in 0..n {
-        d = larger(d, degree(work, ROW + WIDTH * i, WIDTH));
+        d = larger(d, degree(table, base + WIDTH * i, WIDTH));
     }
     d
 }
@@ -126,7 +127,7 @@ pub fn divide_by_gcd<F: Field>(n: usize, generators: &[F], work: &mut [F]) -> Op
             divide_row(n, generators, e, work);
             Some(Degrees {
                 divisor: e,
-                row: row_degree(n, work),
+                row: row_degree(n, work, ROW),
             })
         }
     }
