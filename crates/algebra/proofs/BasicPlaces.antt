@@ -11,6 +11,7 @@ use Rattle.algebra.specs.Series.{sum-below, total, constant, series, shift, Po
 use Rattle.algebra.specs.Divisors.{Combination, VectorDegree}
 use Rattle.algebra.specs.Independence.{All, Domain, Spanned, Independent}
 use Rattle.algebra.specs.Places.{place-list, NonPivotal, Pivotal, Basic, BasicPlaces}
+use Rattle.algebra.proofs.Rows as Rows
 use Rattle.algebra.proofs.Sums as Sums
 use Rattle.algebra.proofs.Series as S
 use Rattle.algebra.proofs.Bounds as B
@@ -58,10 +59,10 @@ module _ {M : Type 0} (o : RingOps M) (F : IsField o) (m d : ℕ) (r : ℕ → �
 
   -- the other classes, in order
   abbrev class : ℕ → ℕ
-  class j = E.skip (cl .free) j
+  class j = Rows.skip (cl .free) j
 
   firsts : (j : ℕ) → j < m → FirstNonPivotal o n d r (class j)
-  firsts j l = cl .first (class j) (E.skip-lt (cl .free) m j l) (E.skip-ne (cl .free) j)
+  firsts j l = cl .first (class j) (Rows.skip-lt (cl .free) m j l) (Rows.skip-ne (cl .free) j)
 
   -- the powers of the first non-pivotal places of the other classes
   power : ℕ → ℕ
@@ -114,7 +115,7 @@ module _ {M : Type 0} (o : RingOps M) (F : IsField o) (m d : ℕ) (r : ℕ → �
       one-class j l =
           let x = firsts j l in
           C.sum-single (suc d) (x .power) (λ k. keep (basic-decides (n * k plus class j)) (f (n * k plus class j))) (x .within) (λ k a ne. C.keep-no (basic-decides (n * k plus class j)) (f (n * k plus class j)) (λ b. ne (Classes.first-of-basic o F n positive d r v (class j) k x b)))
-          ∙ C.keep-yes (basic-decides (n * x .power plus class j)) (f (n * x .power plus class j)) (Classes.basic-of-first o F n positive d r v (class j) (E.skip-lt (cl .free) m j l) x)
+          ∙ C.keep-yes (basic-decides (n * x .power plus class j)) (f (n * x .power plus class j)) (Classes.basic-of-first o F n positive d r v (class j) (Rows.skip-lt (cl .free) m j l) x)
           ∙ ap (λ t. f (n * t plus class j)) (sym (power-is j l))
 
   -- the pivotal places, class by class
@@ -131,7 +132,7 @@ module _ {M : Type 0} (o : RingOps M) (F : IsField o) (m d : ℕ) (r : ℕ → �
           let x = firsts j l in
           let small = x .within in
           C.sum-threshold (suc d) (x .power) (λ k. Pivotal o n d r (n * k plus class j)) (λ k. pivotal-decides (n * k plus class j)) (omega arith) (x .earlier)
-          (λ k a b p. p (Classes.nonpivotal-above o F n positive d r v (class j) (x .power) k (E.skip-lt (cl .free) m j l) a (x .within) (x .non-pivotal)))
+          (λ k a b p. p (Classes.nonpivotal-above o F n positive d r v (class j) (x .power) k (Rows.skip-lt (cl .free) m j l) a (x .within) (x .non-pivotal)))
           ∙ sym (power-is j l)
 
   basic-count : basics .count ≡ m
@@ -159,7 +160,7 @@ module _ {M : Type 0} (o : RingOps M) (F : IsField o) (m d : ℕ) (r : ℕ → �
   basic-powers =
       subst (λ (t : ℕ). sum-below t (λ j. basics .place j / n) ≡ sum-below places (λ q. keep (basic-decides q) (q / n))) basic-count (basics .sums (λ q. q / n))
       ∙ basic-sum (λ q. q / n)
-      ∙ C.sum-ext m (λ j. (n * power j plus class j) / n) power (λ j l. Places.place-div n (power j) (class j) (E.skip-lt (cl .free) m j l))
+      ∙ C.sum-ext m (λ j. (n * power j plus class j) / n) power (λ j l. Places.place-div n (power j) (class j) (Rows.skip-lt (cl .free) m j l))
 
   abbrev pivot-list : ℕ → ℕ → M
   pivot-list t = list (pivots .place t)

@@ -5,7 +5,7 @@ use Prim.Native.Nat.{ℕ, zero, suc, _≤_, _<_, _+_, _*_, zero-le, suc-le-suc}
 use native.Mathlib.Nat.{le-of-suc-le-suc, not-suc-le-zero, add-zero, zero-add, suc-add, add-assoc, add-comm, mul-zero, mul-suc, zero-mul, suc-mul}
 use native.Mathlib.Omega.{arith}
 use Rattle.algebra.specs.Series.{sum-below}
-use Rattle.algebra.proofs.Exchange.{skip}
+use Rattle.algebra.proofs.Rows.{skip}
 
 -- x where a property holds, and 0 elsewhere
 abbrev pub keep : {A : Type 0} → Dec A → ℕ → ℕ

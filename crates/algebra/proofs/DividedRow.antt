@@ -11,6 +11,7 @@ use Rattle.algebra.specs.Rings.{RingOps, RingLaws, IsField}
 use Rattle.algebra.specs.Series.{total, dot, series, Below, Degree, Polynomial}
 use Rattle.algebra.specs.Divisors.{Combination, MonicGcd, AllZero, DividedRow, Bounded, VectorDegree, BoundedCombination}
 use Rattle.algebra.specs.Independence.{All, NotAllZero}
+use Rattle.algebra.proofs.Rows as Rows
 use Rattle.algebra.proofs.Sums as Sums
 use Rattle.algebra.proofs.Solver.{solve, var, _⊞_, _⊠_, neg}
 use Rattle.algebra.proofs.Series as S
@@ -35,7 +36,7 @@ module _ {M : Type 0} (o : RingOps M) (F : IsField o) where
   infix 80 -_
   pub divided-row-exists : (n : ℕ) (a : ℕ → ℕ → M) (g : ℕ → M) → MonicGcd o n a g → (r : ℕ → ℕ → M) × DividedRow o n a g r
   divided-row-exists n a g p =
-      let r = E.choose {A = ℕ → M} (λ i q. Polynomial o q × (g · q ≡ a i)) 𝟘 n (λ i h. (p .divides i h .quotient, (p .divides i h .polynomial, p .divides i h .is))) in
+      let r = Rows.choose {A = ℕ → M} (λ i q. Polynomial o q × (g · q ≡ a i)) 𝟘 n (λ i h. (p .divides i h .quotient, (p .divides i h .polynomial, p .divides i h .is))) in
       (r .0, record { polynomials = λ i h. r .1 i h .0; is = λ i h. r .1 i h .1 })
 
   gcd-nonzero : (n : ℕ) (a : ℕ → ℕ → M) (g : ℕ → M) → MonicGcd o n a g → g ≡ 𝟘 → ⊥
@@ -107,21 +108,21 @@ module _ {M : Type 0} (o : RingOps M) (F : IsField o) where
 
   -- f b_i = r_c q_i + rem_i at each i but c: the vector with rem_i there and f b_c + Σ q_i r_i at c has the same product with the row
   reduced-is : (n c : ℕ) (r b : ℕ → ℕ → M) (f : ℕ → M) (q rem : ℕ → ℕ → M) → c < suc n
-      → ((j : ℕ) → j < n → f · b (E.skip c j) ≡ r c · q j + rem j)
-      → dot (series o) (suc n) r (E.slot c (f · b c + total (series o) n (λ j. q j · r (E.skip c j))) rem) ≡ f · dot (series o) (suc n) r b
+      → ((j : ℕ) → j < n → f · b (Rows.skip c j) ≡ r c · q j + rem j)
+      → dot (series o) (suc n) r (Rows.slot c (f · b c + total (series o) n (λ j. q j · r (Rows.skip c j))) rem) ≡ f · dot (series o) (suc n) r b
   reduced-is n c r b f q rem h e =
-      E.total-skip (series o) SL n c (λ i. r i · E.slot c top rem i) h
+      Sums.total-skip (series o) SL n c (λ i. r i · Rows.slot c top rem i) h
       ∙ ap₂ _+_
-      (ap (λ t. r c · t) (E.slot-at c top rem))
-      (Sums.total-ext (series o) SL n (λ j. r (E.skip c j) · E.slot c top rem (E.skip c j)) (λ j. f · (r (E.skip c j) · b (E.skip c j)) + r c · (- (q j · r (E.skip c j))))
-      (λ j l. ap (λ t. r (E.skip c j) · t) (E.slot-skip c top rem j) ∙ term (r (E.skip c j)) (rem j) (b (E.skip c j)) (q j) (e j l))
-      ∙ Sums.total-sum (series o) SL n (λ j. f · (r (E.skip c j) · b (E.skip c j))) (λ j. r c · (- (q j · r (E.skip c j))))
-      ∙ ap₂ _+_ (Sums.total-scale (series o) SL n f (λ j. r (E.skip c j) · b (E.skip c j))) (Sums.total-scale (series o) SL n (r c) (λ j. - (q j · r (E.skip c j))) ∙ ap (λ t. r c · t) (Sums.total-negative (series o) SL n (λ j. q j · r (E.skip c j)))))
-      ∙ solve (series o) SL (r c ∷ f ∷ b c ∷ total (series o) n (λ j. q j · r (E.skip c j)) ∷ total (series o) n (λ j. r (E.skip c j) · b (E.skip c j)) ∷ []) (var 0 ⊠ (var 1 ⊠ var 2 ⊞ var 3) ⊞ (var 1 ⊠ var 4 ⊞ var 0 ⊠ neg (var 3))) (var 1 ⊠ (var 0 ⊠ var 2 ⊞ var 4)) refl
-      ∙ ap (λ t. f · t) (sym (E.total-skip (series o) SL n c (λ i. r i · b i) h))
+      (ap (λ t. r c · t) (Rows.slot-at c top rem))
+      (Sums.total-ext (series o) SL n (λ j. r (Rows.skip c j) · Rows.slot c top rem (Rows.skip c j)) (λ j. f · (r (Rows.skip c j) · b (Rows.skip c j)) + r c · (- (q j · r (Rows.skip c j))))
+      (λ j l. ap (λ t. r (Rows.skip c j) · t) (Rows.slot-skip c top rem j) ∙ term (r (Rows.skip c j)) (rem j) (b (Rows.skip c j)) (q j) (e j l))
+      ∙ Sums.total-sum (series o) SL n (λ j. f · (r (Rows.skip c j) · b (Rows.skip c j))) (λ j. r c · (- (q j · r (Rows.skip c j))))
+      ∙ ap₂ _+_ (Sums.total-scale (series o) SL n f (λ j. r (Rows.skip c j) · b (Rows.skip c j))) (Sums.total-scale (series o) SL n (r c) (λ j. - (q j · r (Rows.skip c j))) ∙ ap (λ t. r c · t) (Sums.total-negative (series o) SL n (λ j. q j · r (Rows.skip c j)))))
+      ∙ solve (series o) SL (r c ∷ f ∷ b c ∷ total (series o) n (λ j. q j · r (Rows.skip c j)) ∷ total (series o) n (λ j. r (Rows.skip c j) · b (Rows.skip c j)) ∷ []) (var 0 ⊠ (var 1 ⊠ var 2 ⊞ var 3) ⊞ (var 1 ⊠ var 4 ⊞ var 0 ⊠ neg (var 3))) (var 1 ⊠ (var 0 ⊠ var 2 ⊞ var 4)) refl
+      ∙ ap (λ t. f · t) (sym (Sums.total-skip (series o) SL n c (λ i. r i · b i) h))
     where
       top : ℕ → M
-      top = f · b c + total (series o) n (λ j. q j · r (E.skip c j))
+      top = f · b c + total (series o) n (λ j. q j · r (Rows.skip c j))
 
       term : (x y z w : ℕ → M) → f · z ≡ r c · w + y → x · y ≡ f · (x · z) + r c · (- (w · x))
       term x y z w h =
@@ -132,25 +133,25 @@ module _ {M : Type 0} (o : RingOps M) (F : IsField o) where
   -- the factor at c is bounded by what its product has to be
   corner-below : (n d c : ℕ) (r rem : ℕ → ℕ → M) (f x : ℕ → M) → c < suc n → Bounded o (suc n) (suc d) r
       → Degree o (r c) d → ((j : ℕ) → j < n → Below o d (rem j)) → Polynomial o x → Below o (suc (d plus d)) f
-      → dot (series o) (suc n) r (E.slot c x rem) ≡ f → Below o (suc d) x
+      → dot (series o) (suc n) r (Rows.slot c x rem) ≡ f → Below o (suc d) x
   corner-below n d c r rem f x h b dc s p bf e =
       D.below-factor o F (r c) x d (suc d) (suc (d plus d)) dc p (omega arith)
       (subst (Below o (suc (d plus d))) (sym product-is)
       (B.below-sum o L (suc (d plus d)) f (- others) bf
       (B.below-negative o L (suc (d plus d)) others
-      (B.below-total o L n (suc (d plus d)) (λ j. r (E.skip c j) · rem j) (λ j l. B.below-product o L (suc d) d (suc (d plus d)) (r (E.skip c j)) (rem j) (omega arith) (b (E.skip c j) (E.skip-lt c n j l)) (s j l))))))
+      (B.below-total o L n (suc (d plus d)) (λ j. r (Rows.skip c j) · rem j) (λ j l. B.below-product o L (suc d) d (suc (d plus d)) (r (Rows.skip c j)) (rem j) (omega arith) (b (Rows.skip c j) (Rows.skip-lt c n j l)) (s j l))))))
     where
       others : ℕ → M
-      others = total (series o) n (λ j. r (E.skip c j) · rem j)
+      others = total (series o) n (λ j. r (Rows.skip c j) · rem j)
 
       product-is : r c · x ≡ f + (- others)
       product-is =
           solve (series o) SL (r c · x ∷ others ∷ []) (var 0) (var 0 ⊞ var 1 ⊞ neg (var 1)) refl
           ∙ ap (λ t. t + (- others))
           (ap₂ _+_
-          (ap (λ t. r c · t) (sym (E.slot-at c x rem)))
-          (Sums.total-ext (series o) SL n (λ j. r (E.skip c j) · rem j) (λ j. r (E.skip c j) · E.slot c x rem (E.skip c j)) (λ j l. ap (λ t. r (E.skip c j) · t) (sym (E.slot-skip c x rem j))))
-          ∙ sym (E.total-skip (series o) SL n c (λ i. r i · E.slot c x rem i) h)
+          (ap (λ t. r c · t) (sym (Rows.slot-at c x rem)))
+          (Sums.total-ext (series o) SL n (λ j. r (Rows.skip c j) · rem j) (λ j. r (Rows.skip c j) · Rows.slot c x rem (Rows.skip c j)) (λ j l. ap (λ t. r (Rows.skip c j) · t) (sym (Rows.slot-skip c x rem j))))
+          ∙ sym (Sums.total-skip (series o) SL n c (λ i. r i · Rows.slot c x rem i) h)
           ∙ e)
 
   -- a polynomial of degree at most 2d is the row times a vector of degree at most d
@@ -159,8 +160,8 @@ module _ {M : Type 0} (o : RingOps M) (F : IsField o) where
   small-combination zero d r p b v f bf = absurd (not-suc-le-zero (v .within))
   small-combination (suc n) d r p b v f bf =
       record {
-        vector = E.slot c x rem;
-        bounded = E.slot-all (Below o (suc d)) n c x rem (v .within)
+        vector = Rows.slot c x rem;
+        bounded = Rows.slot-all (Below o (suc d)) n c x rem (v .within)
             (corner-below n d c r rem f x (v .within) (v .bounded) (component-degree (suc n) r d v) (λ j l. parts .1 j l .small) x-polynomial bf product)
             (λ j l. B.below-mono o L d (suc d) (rem j) (omega arith) (parts .1 j l .small));
         is = product;
@@ -169,11 +170,11 @@ module _ {M : Type 0} (o : RingOps M) (F : IsField o) where
       c : ℕ
       c = v .component
 
-      parts : (z : ℕ → (ℕ → M) × (ℕ → M)) × ((j : ℕ) → j < n → record { is : f · b .vector (E.skip c j) ≡ r c · z j .0 + z j .1; small : Below o d (z j .1); polynomial : Polynomial o (z j .0) })
-      parts = E.choose {A = (ℕ → M) × (ℕ → M)} (λ j z. record { is : f · b .vector (E.skip c j) ≡ r c · z .0 + z .1; small : Below o d (z .1); polynomial : Polynomial o (z .0) }) (𝟘, 𝟘) n
+      parts : (z : ℕ → (ℕ → M) × (ℕ → M)) × ((j : ℕ) → j < n → record { is : f · b .vector (Rows.skip c j) ≡ r c · z j .0 + z j .1; small : Below o d (z j .1); polynomial : Polynomial o (z j .0) })
+      parts = Rows.choose {A = (ℕ → M) × (ℕ → M)} (λ j z. record { is : f · b .vector (Rows.skip c j) ≡ r c · z .0 + z .1; small : Below o d (z .1); polynomial : Polynomial o (z .0) }) (𝟘, 𝟘) n
           (λ j l.
-          let product = B.polynomial-product o L f (b .vector (E.skip c j)) (suc (d plus d), bf) (b .polynomials (E.skip c j) (E.skip-lt c n j l)) in
-          let w = V.divide o F (product .0) (f · b .vector (E.skip c j)) (r c) d (component-degree (suc n) r d v) (product .1) in
+          let product = B.polynomial-product o L f (b .vector (Rows.skip c j)) (suc (d plus d), bf) (b .polynomials (Rows.skip c j) (Rows.skip-lt c n j l)) in
+          let w = V.divide o F (product .0) (f · b .vector (Rows.skip c j)) (r c) d (component-degree (suc n) r d v) (product .1) in
           ((w .quotient, w .remainder), record { is = w .is; small = w .small; polynomial = w .polynomial }))
 
       q : ℕ → ℕ → M
@@ -183,13 +184,13 @@ module _ {M : Type 0} (o : RingOps M) (F : IsField o) where
       rem j = parts .0 j .1
 
       x : ℕ → M
-      x = f · b .vector c + total (series o) n (λ j. q j · r (E.skip c j))
+      x = f · b .vector c + total (series o) n (λ j. q j · r (Rows.skip c j))
 
       x-polynomial : Polynomial o x
       x-polynomial =
-          B.polynomial-sum o L (f · b .vector c) (total (series o) n (λ j. q j · r (E.skip c j)))
+          B.polynomial-sum o L (f · b .vector c) (total (series o) n (λ j. q j · r (Rows.skip c j)))
           (B.polynomial-product o L f (b .vector c) (suc (d plus d), bf) (b .polynomials c (v .within)))
-          (B.polynomial-total o L n (λ j. q j · r (E.skip c j)) (λ j l. B.polynomial-product o L (q j) (r (E.skip c j)) (parts .1 j l .polynomial) (p (E.skip c j) (E.skip-lt c n j l))))
+          (B.polynomial-total o L n (λ j. q j · r (Rows.skip c j)) (λ j l. B.polynomial-product o L (q j) (r (Rows.skip c j)) (parts .1 j l .polynomial) (p (Rows.skip c j) (Rows.skip-lt c n j l))))
 
-      product : dot (series o) (suc n) r (E.slot c x rem) ≡ f
+      product : dot (series o) (suc n) r (Rows.slot c x rem) ≡ f
       product = reduced-is n c r (b .vector) f q rem (v .within) (λ j l. parts .1 j l .is) ∙ ap (λ t. f · t) (b .is) ∙ SL .product-one f

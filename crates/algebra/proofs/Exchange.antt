@@ -11,86 +11,12 @@ use native.Mathlib.Omega.{arith}
 use Rattle.algebra.specs.Rings.{RingOps, RingLaws, IsField}
 use Rattle.algebra.specs.Series.{total, dot, series, Polynomial}
 use Rattle.algebra.specs.Independence.{All, Domain, NotAllZero, Solution, Spanned, Dependent, Independent}
+use Rattle.algebra.proofs.Rows.{skip, slot, skip-lt, unskip, slot-at, slot-skip, slot-all, choose}
 use Rattle.algebra.proofs.Sums as Sums
 use Rattle.algebra.proofs.Solver.{solve, var, 𝟎, _⊞_, _⊠_, neg}
 use Rattle.algebra.proofs.Fields as Fields
 use Rattle.algebra.proofs.Bounds as B
 use Rattle.algebra.proofs.Degrees as D
-
--- all numbers but p, in rising order
-abbrev pub skip : ℕ → ℕ → ℕ
-skip zero j = suc j
-skip (suc p) zero = zero
-skip (suc p) (suc j) = suc (skip p j)
-
--- v at p, and y in order at the other places
-abbrev pub slot : {R : Type 0} → ℕ → R → (ℕ → R) → ℕ → R
-slot zero v y zero = v
-slot zero v y (suc k) = y k
-slot (suc p) v y zero = y 0
-slot (suc p) v y (suc k) = slot p v (λ j. y (suc j)) k
-
-pub skip-lt : (p n j : ℕ) → j < n → skip p j < suc n
-skip-lt zero n j h = suc-le-suc h
-skip-lt (suc p) zero j h = absurd (not-suc-le-zero h)
-skip-lt (suc p) (suc n) zero h = suc-le-suc zero-le
-skip-lt (suc p) (suc n) (suc j) h = suc-le-suc (skip-lt p n j (le-of-suc-le-suc h))
-
-pub skip-ne : (p j : ℕ) → skip p j ≡ p → ⊥
-skip-ne zero j e = omega arith
-skip-ne (suc p) zero e = omega arith
-skip-ne (suc p) (suc j) e = skip-ne p j (omega arith)
-
--- every number but p is skipped to
-pub unskip : (q p j : ℕ) → p < suc q → j < suc q → (j ≡ p → ⊥) → (i : ℕ) × (i < q) × (skip p i ≡ j)
-unskip q zero zero b h n = absurd (n refl)
-unskip q zero (suc j) b h n = (j, le-of-suc-le-suc h, refl)
-unskip zero (suc p) j b h n = absurd (not-suc-le-zero (le-of-suc-le-suc b))
-unskip (suc q) (suc p) zero b h n = (0, suc-le-suc zero-le, refl)
-unskip (suc q) (suc p) (suc j) b h n = let x = unskip q p j (le-of-suc-le-suc b) (le-of-suc-le-suc h) (λ e. n (ap suc e)) in (suc (x .0), suc-le-suc (x .1), ap suc (x .2))
-
-pub slot-at : {R : Type 0} (p : ℕ) (v : R) (y : ℕ → R) → slot p v y p ≡ v
-slot-at zero v y = refl
-slot-at (suc p) v y = slot-at p v (λ j. y (suc j))
-
-pub slot-skip : {R : Type 0} (p : ℕ) (v : R) (y : ℕ → R) (j : ℕ) → slot p v y (skip p j) ≡ y j
-slot-skip zero v y j = refl
-slot-skip (suc p) v y zero = refl
-slot-skip (suc p) v y (suc j) = slot-skip p v (λ i. y (suc i)) j
-
--- x everywhere but at p
-pub slot-off : {R : Type 0} (p : ℕ) (v x : R) (q : ℕ) → (q ≡ p → ⊥) → slot p v (λ j. x) q ≡ x
-slot-off zero v x zero n = absurd (n refl)
-slot-off zero v x (suc q) n = refl
-slot-off (suc p) v x zero n = refl
-slot-off (suc p) v x (suc q) n = slot-off p v x q (λ e. n (ap suc e))
-
-pub slot-both : {R : Type 0} (P : R → Type 0) (p : ℕ) (v x : R) (q : ℕ) → P v → P x → P (slot p v (λ j. x) q)
-slot-both P zero v x zero a b = a
-slot-both P zero v x (suc q) a b = b
-slot-both P (suc p) v x zero a b = b
-slot-both P (suc p) v x (suc q) a b = slot-both P p v x q a b
-
-pub slot-all : {R : Type 0} (P : R → Type 0) (n p : ℕ) (v : R) (y : ℕ → R) → p < suc n → P v
-    → ((j : ℕ) → j < n → P (y j)) → (k : ℕ) → k < suc n → P (slot p v y k)
-slot-all P n zero v y h a b zero l = a
-slot-all P n zero v y h a b (suc k) l = b k (le-of-suc-le-suc l)
-slot-all P zero (suc p) v y h a b k l = absurd (not-suc-le-zero (le-of-suc-le-suc h))
-slot-all P (suc n) (suc p) v y h a b zero l = b 0 (suc-le-suc zero-le)
-slot-all P (suc n) (suc p) v y h a b (suc k) l = slot-all P n p v (λ j. y (suc j)) (le-of-suc-le-suc h) a (λ j i. b (suc j) (suc-le-suc i)) k (le-of-suc-le-suc l)
-
--- what exists at each place below q is the value of one function
-pub choose : {A : Type 0} (B : ℕ → A → Type 0) (default : A) (q : ℕ) → ((j : ℕ) → j < q → (x : A) × B j x)
-    → (f : ℕ → A) × ((j : ℕ) → j < q → B j (f j))
-choose B default zero h = (λ j. default, λ j l. absurd (not-suc-le-zero l))
-choose {A} B default (suc q) h = go (h 0 (suc-le-suc zero-le)) (choose (λ j. B (suc j)) default q (λ j l. h (suc j) (suc-le-suc l)))
-  where
-    holds : (x : A) (f : ℕ → A) → B 0 x → ((j : ℕ) → j < q → B (suc j) (f j)) → (j : ℕ) → j < suc q → B j (slot 0 x f j)
-    holds x f b c zero l = b
-    holds x f b c (suc j) l = c j (le-of-suc-le-suc l)
-
-    go : (x : A) × B 0 x → (f : ℕ → A) × ((j : ℕ) → j < q → B (suc j) (f j)) → (f : ℕ → A) × ((j : ℕ) → j < suc q → B j (f j))
-    go x f = (slot 0 (x .0) (f .0), holds (x .0) (f .0) (x .1) (f .1))
 
 module _ {R : Type 0} (o : RingOps R) (L : RingLaws o) where
   open RingOps o using (zero as O, one as I, sum as _+_, negative as -_, product as _·_)
@@ -98,14 +24,6 @@ module _ {R : Type 0} (o : RingOps R) (L : RingLaws o) where
   infixl 60 _+_
   infixl 70 _·_
   infix 80 -_
-  -- one term taken out of a sum
-  pub total-skip : (n p : ℕ) (f : ℕ → R) → p < suc n → total o (suc n) f ≡ f p + total o n (λ j. f (skip p j))
-  total-skip n zero f h = refl
-  total-skip zero (suc p) f h = absurd (not-suc-le-zero (le-of-suc-le-suc h))
-  total-skip (suc n) (suc p) f h =
-      ap (λ t. f 0 + t) (total-skip n p (λ k. f (suc k)) (le-of-suc-le-suc h))
-      ∙ Sums.sum-left-comm o L (f 0) (f (suc p)) (total o n (λ j. f (suc (skip p j))))
-
   -- sums of multiples of sums of multiples
   pub total-compose : (q m : ℕ) (x : ℕ → R) (c : ℕ → ℕ → R) (u : ℕ → R)
       → total o q (λ j. x j · total o m (λ l. c j l · u l)) ≡ total o m (λ l. dot o q (λ j. c j l) x · u l)
@@ -145,7 +63,7 @@ module _ {R : Type 0} (o : RingOps R) (L : RingLaws o) where
     dot-completed : (A : ℕ → ℕ → R) (p q : ℕ) (y row : ℕ → R) → p < suc q
         → dot o (suc q) row (completed A p q y) ≡ row p · (- dot o q (λ j. A 0 (skip p j)) y) + A 0 p · dot o q (λ j. row (skip p j)) y
     dot-completed A p q y row h =
-        total-skip q p (λ k. row k · completed A p q y k) h
+        Sums.total-skip o L q p (λ k. row k · completed A p q y k) h
         ∙ ap₂ _+_
         (ap (λ t. row p · t) (slot-at p (- dot o q (λ j. A 0 (skip p j)) y) (λ j. A 0 p · y j)))
         (Sums.total-ext o L q (λ j. row (skip p j) · completed A p q y (skip p j)) (λ j. A 0 p · (row (skip p j) · y j))
@@ -231,7 +149,7 @@ module _ {R : Type 0} (o : RingOps R) (L : RingLaws o) where
             at-p =
                 sym (L .sum-zero (dot o (suc q) (λ l. X l p) C · y p))
                 ∙ ap (λ t. dot o (suc q) (λ l. X l p) C · y p + t) (sym (Sums.total-zero o L q (λ i. dot o (suc q) (λ l. X l (skip p i)) C · y (skip p i)) (λ i b. ap (λ t. t · y (skip p i)) (s .solves i b) ∙ Sums.zero-product o L (y (skip p i)))))
-                ∙ sym (total-skip q p (λ j. dot o (suc q) (λ l. X l j) C · y j) h)
+                ∙ sym (Sums.total-skip o L q p (λ j. dot o (suc q) (λ l. X l j) C · y j) h)
                 ∙ all
 
             at : (j : ℕ) → j < suc q → Dec (j ≡ p) → dot o (suc q) (λ l. X l j) C ≡ O
@@ -268,7 +186,7 @@ module _ {R : Type 0} (o : RingOps R) (L : RingLaws o) where
       factor = slot p I (λ j. O);
       inside = slot-all P t p I (λ j. O) h (D .one-in) (λ j l. D .zero-in);
       is = λ k l. sym (
-          total-skip t p (λ j. slot p I (λ i. O) j · u j k) h
+          Sums.total-skip o L t p (λ j. slot p I (λ i. O) j · u j k) h
           ∙ ap₂ _+_
           (ap (λ z. z · u p k) (slot-at p I (λ i. O)) ∙ Sums.one-product o L (u p k))
           (Sums.total-zero o L t (λ j. slot p I (λ i. O) (skip p j) · u (skip p j) k) (λ j b. ap (λ z. z · u (skip p j) k) (slot-skip p I (λ i. O) j) ∙ Sums.zero-product o L (u (skip p j) k)))

@@ -11,10 +11,10 @@ use Rattle.algebra.specs.Divisors.{Bounded, Combination, VectorDegree}
 use Rattle.algebra.specs.Independence.{All, Spanned}
 use Rattle.algebra.specs.Places.{place-list, NonPivotal, Basic, BasicPlaces}
 use Rattle.algebra.specs.Frames.{ZeroOffPivotal, FrameColumns}
+use Rattle.algebra.proofs.Rows as Rows
 use Rattle.algebra.proofs.Sums as Sums
 use Rattle.algebra.proofs.Series as S
 use Rattle.algebra.proofs.Bounds as B
-use Rattle.algebra.proofs.Exchange as E
 use Rattle.algebra.proofs.Spans as Spans
 use Rattle.algebra.proofs.Pivots as Pivots
 use Rattle.algebra.proofs.DividedRow as R
@@ -136,18 +136,18 @@ module _ {M : Type 0} (o : RingOps M) (F : IsField o) (m d : ℕ) (r : ℕ → �
   check-exists : (p : ℕ) → Basic o n d r p → (h : ℕ → ℕ → M) × CheckColumn o n d r p h × BelowPlace o n (suc p) h
   check-exists p b =
       let s = Pivots.pivotal-span o F width (place-list o n r) p (place-list o n r p) (b .non-pivotal) in
-      let x = E.slot p I (λ j. minus (s .factor j)) in
-      let below : BelowPlace o n (suc p) (spread n (Spans.cut o (suc p) x)) = λ i k a l. Spans.cut-high o (suc p) x (n * k plus i) l in (
-        spread n (Spans.cut o (suc p) x),
+      let x = Rows.slot p I (λ j. minus (s .factor j)) in
+      let below : BelowPlace o n (suc p) (spread n (Rows.cut o (suc p) x)) = λ i k a l. Rows.cut-high o (suc p) x (n * k plus i) l in (
+        spread n (Rows.cut o (suc p) x),
         record {
           off = record {
-            bounded = Places.bounded-of-below-place n positive o (suc p) (suc d) (spread n (Spans.cut o (suc p) x)) (b .within) below;
+            bounded = Places.bounded-of-below-place n positive o (suc p) (suc d) (spread n (Rows.cut o (suc p) x)) (b .within) below;
             zero-off = λ i k a l t ne. elim (decLt (n * k plus i) p) [
-              | yes less ↦ Spans.cut-low o (suc p) x (n * k plus i) (omega arith) ∙ Pivots.slot-low p I (λ j. minus (s .factor j)) (n * k plus i) less ∙ ap minus (s .off (n * k plus i) less t) ∙ Sums.negative-zero o L
-              | no more ↦ Spans.cut-high o (suc p) x (n * k plus i) (above (n * k plus i) ne more)
+              | yes less ↦ Rows.cut-low o (suc p) x (n * k plus i) (omega arith) ∙ Rows.slot-low p I (λ j. minus (s .factor j)) (n * k plus i) less ∙ ap minus (s .off (n * k plus i) less t) ∙ Sums.negative-zero o L
+              | no more ↦ Rows.cut-high o (suc p) x (n * k plus i) (above (n * k plus i) ne more)
             ];
           };
-          one = λ i k a e. Spans.cut-low o (suc p) x (n * k plus i) (omega arith) ∙ ap x e ∙ E.slot-at p I (λ j. minus (s .factor j));
+          one = λ i k a e. Rows.cut-low o (suc p) x (n * k plus i) (omega arith) ∙ ap x e ∙ Rows.slot-at p I (λ j. minus (s .factor j));
           is = Syzygies.relation-syzygy o F n positive d r (v .bounded) p (s .factor) (b .within) (s .is);
         },
         below,
@@ -168,23 +168,23 @@ module _ {M : Type 0} (o : RingOps M) (F : IsField o) (m d : ℕ) (r : ℕ → �
         } in
         let s = Pivots.pivotal-span o F width (place-list o n r) places 𝟙 lists in
         let x = s .factor in (
-          spread n (Spans.cut o places x),
+          spread n (Rows.cut o places x),
           record {
-            bounded = Places.bounded-of-below-place n positive o places (suc d) (spread n (Spans.cut o places x)) (le-refl places) (λ i k a l. Spans.cut-high o places x (n * k plus i) l);
-            zero-off = λ i k a l t ne. let w = Classes.place-within o F n positive d r v k i a l in Spans.cut-low o places x (n * k plus i) w ∙ s .off (n * k plus i) w t;
+            bounded = Places.bounded-of-below-place n positive o places (suc d) (spread n (Rows.cut o places x)) (le-refl places) (λ i k a l. Rows.cut-high o places x (n * k plus i) l);
+            zero-off = λ i k a l t ne. let w = Classes.place-within o F n positive d r v k i a l in Rows.cut-low o places x (n * k plus i) w ∙ s .off (n * k plus i) w t;
           },
           Syzygies.vector-of-relation o F n positive d r (v .bounded) places x 𝟙 (le-refl places) (B.below-mono o L 1 width 𝟙 (omega arith) (B.below-constant o L I)) (λ k l. sym (s .is k l)),
         )
 
     checks : (z : ℕ → ℕ → ℕ → M) × ((j : ℕ) → j < m → CheckColumn o n d r (Basics.basic-place o F m d r v j) (z j))
-    checks = E.choose {A = ℕ → ℕ → M} (λ j h. CheckColumn o n d r (Basics.basic-place o F m d r v j) h) (λ i. 𝟘) m (λ j l. let x = check-exists (Basics.basic-place o F m d r v j) (Basics.basic-places o F m d r v .basic j l) in (x .0, x .1))
+    checks = Rows.choose {A = ℕ → ℕ → M} (λ j h. CheckColumn o n d r (Basics.basic-place o F m d r v j) h) (λ i. 𝟘) m (λ j l. let x = check-exists (Basics.basic-place o F m d r v j) (Basics.basic-places o F m d r v .basic j l) in (x .0, x .1))
 
     pub frame-columns-exist : (p : ℕ → ℕ) × (c : ℕ → ℕ → ℕ → M) × FrameColumns o m d r p c
     frame-columns-exist =
         let f = first-exists in
         let z = checks in (
           Basics.basic-place o F m d r v,
-          E.slot 0 (f .0) (z .0),
+          Rows.slot 0 (f .0) (z .0),
           record {
             places = Basics.basic-places o F m d r v;
             first-off = f .1;

@@ -1,5 +1,6 @@
 -- Vectors of polynomials with independent leading vectors. Main results: predictable (a sum of multiples has no term above its bound),
--- independent-over-polynomials, exactly-one-sum, lifted-sum-top (a combination of leading vectors is the top of a sum of multiples), echelon-independent (vectors with leading places in distinct classes have independent leading vectors).
+-- independent-over-polynomials, exactly-one-sum, lifted-sum-top (a combination of leading vectors is the top of a sum of multiples),
+-- echelon-independent (vectors with leading places in distinct classes have independent leading vectors).
 use mathlib.Core.Path.{_≡_, refl, sym, ap, ap₂, _∙_, subst, fun-ext}
 use mathlib.Core.Logic.{_⊎_, inl, inr}
 use Prim.Native.Nat.{ℕ, zero, suc, _≤_, _<_, zero-le, _/_, _%_, _-_, _+_ as _plus_}

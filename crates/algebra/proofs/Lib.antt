@@ -1,3 +1,4 @@
+pub mod Rows
 pub mod Sums
 pub mod Solver
 pub mod Series
@@ -25,4 +26,5 @@ pub mod TestPassed
 pub mod TestExact
 pub mod Link
 pub mod Certificates
+pub mod ComputedFrames
 pub mod Theorems

@@ -11,13 +11,13 @@ use Rattle.algebra.specs.Divisors.{Bounded, DividedRow, VectorDegree}
 use Rattle.algebra.specs.Optimal.{PolynomialVector, Syzygy, DegreeOptimal}
 use Rattle.algebra.specs.Link.{Encodes, Clean, inverted, OneChanged, DifferAtMost}
 use Rattle.algebra.specs.Theorems.{CleanLink}
+use Rattle.algebra.proofs.Rows as Rows
 use Rattle.algebra.proofs.Sums as Sums
 use Rattle.algebra.proofs.Solver.{solve, var, _⊞_, _⊠_, neg}
 use Rattle.algebra.proofs.Series as S
 use Rattle.algebra.proofs.Bounds as B
 use Rattle.algebra.proofs.Degrees as D
 use Rattle.algebra.proofs.DividedRow as R
-use Rattle.algebra.proofs.Exchange as E
 use Rattle.algebra.proofs.Spans as Spans
 use Rattle.algebra.proofs.TestExact as Exact
 
@@ -63,17 +63,17 @@ module _ {M : Type 0} (o : RingOps M) (F : IsField o) where
 
     -- e_i - a_i b
     abbrev rest : ℕ → ℕ → ℕ → M
-    rest i l = E.slot i 𝟙 (λ j. 𝟘) l + (- (a i · c 0 l))
+    rest i l = Rows.slot i 𝟙 (λ j. 𝟘) l + (- (a i · c 0 l))
 
     rest-polynomials : (i : ℕ) → i < n → PolynomialVector o n (rest i)
     rest-polynomials i b l h =
-        B.polynomial-sum o L (E.slot i 𝟙 (λ j. 𝟘) l) (- (a i · c 0 l))
-        (E.slot-both (Polynomial o) i 𝟙 𝟘 l (B.polynomial-constant o L I) (B.polynomial-zero o L))
+        B.polynomial-sum o L (Rows.slot i 𝟙 (λ j. 𝟘) l) (- (a i · c 0 l))
+        (Rows.slot-both (Polynomial o) i 𝟙 𝟘 l (B.polynomial-constant o L I) (B.polynomial-zero o L))
         (B.polynomial-negative o L (a i · c 0 l) (B.polynomial-product o L (a i) (c 0 l) (row-polynomials i b) (polynomials 0 (suc-le-suc zero-le) l h)))
 
     dot-rest : (v : ℕ → ℕ → M) (i : ℕ) → i < n → dot (series o) n v (rest i) ≡ v i + (- (a i · inverted o m c v))
     dot-rest v i b =
-        Spans.dot-sum (series o) SL n v (E.slot i 𝟙 (λ j. 𝟘)) (λ l. - (a i · c 0 l))
+        Spans.dot-sum (series o) SL n v (Rows.slot i 𝟙 (λ j. 𝟘)) (λ l. - (a i · c 0 l))
         ∙ ap₂ _+_
         (Spans.dot-slot (series o) SL n i v 𝟙 b ∙ SL .product-one (v i))
         (Spans.dot-negative (series o) SL n v (λ l. a i · c 0 l) ∙ ap -_ (Spans.dot-scale (series o) SL n v (c 0) (a i)))

@@ -1,4 +1,5 @@
--- Bounded searches among numbers. Main results: first-below (the first number with a decidable property), all-or-not, prefix (of numbers that never fall, those up to N come first), common-top (a bound of finitely many numbers).
+-- Bounded searches among numbers. Main results: first-below (the first number with a decidable property), all-or-not, prefix (of numbers that
+-- never fall, those up to N come first), common-top (a bound of finitely many numbers).
 use mathlib.Core.Path.{_≡_, ap}
 use mathlib.Core.Logic.{_⊎_, inl, inr}
 use Prim.Native.Nat.{ℕ, zero, suc, _≤_, _<_, zero-le, suc-le-suc, max, _+_, _-_}

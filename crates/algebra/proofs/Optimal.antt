@@ -1,5 +1,6 @@
 -- The frame columns are degree-optimal. Main results: exactly-one-sum (the check columns are a basis with predictable degrees), least-degrees
--- (one by one), first-least (column 0 has least degree), check-degrees and check-degrees-sum (the check degrees add up to d).
+-- (one by one), first-least (column 0 has least degree), check-degree and check-degrees-sum (the check degrees add up to d),
+-- top-spanned (the top coefficients of a syzygy are a combination of leading vectors).
 use mathlib.Core.Path.{_≡_, sym, ap, ap₂, _∙_, subst, fun-ext}
 use Prim.Native.Nat.{ℕ, zero, suc, _≤_, _<_, zero-le, suc-le-suc, _*_, _/_, _%_, _-_, _+_ as _plus_}
 use native.Mathlib.Nat.{le-refl, mod-lt, div-add-mod, mul-add, mul-le-mul-left, add-zero}
@@ -12,6 +13,7 @@ use Rattle.algebra.specs.Independence.{All, Domain, Spanned, Independent}
 use Rattle.algebra.specs.Places.{place-list, NonPivotal}
 use Rattle.algebra.specs.Frames.{FrameColumns}
 use Rattle.algebra.specs.Optimal.{PolynomialVector, DegreeAtMost, Syzygy, ExactlyOneSum, OrderedSyzygies}
+use Rattle.algebra.proofs.Rows as Rows
 use Rattle.algebra.proofs.Sums as Sums
 use Rattle.algebra.proofs.Series as S
 use Rattle.algebra.proofs.Fields as Fields
@@ -220,10 +222,10 @@ module _ {M : Type 0} (o : RingOps M) (F : IsField o) (m d : ℕ) (r : ℕ → �
       s = Pivots.pivotal-span o F (suc (d plus d)) (place-list o n r) Q 𝟙 lists
 
       shorter : ℕ → ℕ → M
-      shorter = spread n (Spans.cut o Q (s .factor))
+      shorter = spread n (Rows.cut o Q (s .factor))
 
       shorter-below : BelowPlace o n Q shorter
-      shorter-below i t a g = Spans.cut-high o Q (s .factor) (n * t plus i) g
+      shorter-below i t a g = Rows.cut-high o Q (s .factor) (n * t plus i) g
 
       same : (N < suc d) → (i : ℕ) → i < n → c 0 i ≡ shorter i
       same g =
@@ -233,9 +235,9 @@ module _ {M : Type 0} (o : RingOps M) (F : IsField o) (m d : ℕ) (r : ℕ → �
           (λ i t a q z. f .first-off .zero-off i t a q z (λ x. x) ∙ sym (off (n * t plus i) z (decLt (n * t plus i) Q)))
           (f .first ∙ sym (Syzygies.vector-of-relation o F n positive d r (v .bounded) Q (s .factor) 𝟙 fits (B.below-mono o L 1 (suc (d plus d)) 𝟙 (omega arith) (B.below-constant o L I)) (λ t a. sym (s .is t a))))
         where
-          off : (q : ℕ) → NonPivotal o n d r q → Dec (q < Q) → Spans.cut o Q (s .factor) q ≡ O
-          off q z (yes a) = Spans.cut-low o Q (s .factor) q a ∙ s .off q a z
-          off q z (no a) = Spans.cut-high o Q (s .factor) q (omega arith)
+          off : (q : ℕ) → NonPivotal o n d r q → Dec (q < Q) → Rows.cut o Q (s .factor) q ≡ O
+          off q z (yes a) = Rows.cut-low o Q (s .factor) q a ∙ s .off q a z
+          off q z (no a) = Rows.cut-high o Q (s .factor) q (omega arith)
 
   -- the check degrees add up to d
   pub check-degrees-sum : Combination o n r 𝟙 → sum-below m k ≡ d

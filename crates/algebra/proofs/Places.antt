@@ -10,6 +10,7 @@ use Rattle.algebra.specs.Rings.{RingOps, RingLaws}
 use Rattle.algebra.specs.Series.{total, dot, coefficient, series, shift, Below}
 use Rattle.algebra.specs.Divisors.{Bounded}
 use Rattle.algebra.specs.Places.{place-list}
+use Rattle.algebra.proofs.Rows as Rows
 use Rattle.algebra.proofs.Sums as Sums
 use Rattle.algebra.proofs.Series as S
 use Rattle.algebra.proofs.Spans as Spans
@@ -129,7 +130,7 @@ module _ {M : Type 0} (o : RingOps M) (L : RingLaws o) where
 
   -- a combination of the lists below Q is the product of the row with a vector
   pub dot-spread : (n Q : ℕ) (r : ℕ → ℕ → M) (x : ℕ → M) (c : ℕ) → zero < n
-      → dot (series o) n r (spread n (Spans.cut o Q x)) c ≡ total o Q (λ q. x q · place-list o n r q c)
+      → dot (series o) n r (spread n (Rows.cut o Q x)) c ≡ total o Q (λ q. x q · place-list o n r q c)
   dot-spread n Q r x c p =
-      dot-places n Q r (spread n (Spans.cut o Q x)) c p (λ i k a l. Spans.cut-high o Q x (n * k plus i) l)
-      ∙ Sums.total-ext o L Q (λ q. at n (spread n (Spans.cut o Q x)) q · place-list o n r q c) (λ q. x q · place-list o n r q c) (λ q l. ap (λ t. t · place-list o n r q c) (at-spread n p (Spans.cut o Q x) q ∙ Spans.cut-low o Q x q l))
+      dot-places n Q r (spread n (Rows.cut o Q x)) c p (λ i k a l. Rows.cut-high o Q x (n * k plus i) l)
+      ∙ Sums.total-ext o L Q (λ q. at n (spread n (Rows.cut o Q x)) q · place-list o n r q c) (λ q. x q · place-list o n r q c) (λ q l. ap (λ t. t · place-list o n r q c) (at-spread n p (Rows.cut o Q x) q ∙ Rows.cut-low o Q x q l))

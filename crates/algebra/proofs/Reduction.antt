@@ -1,5 +1,5 @@
--- Division of vectors of polynomials by vectors with leading places. Main results: leading-multiple (the leading place of c s^e u), leading-place
--- (a vector is zero or has a leading place), reduce (a vector is a combination of the divisors and a remainder below a place).
+-- Division of vectors of polynomials by vectors with leading places. Main results: multiple-below and multiple-leading (the leading place of
+-- c s^e u), leading-place (a vector is zero or has a leading place), reduce (a vector is a combination of the divisors and a remainder below a place).
 use mathlib.Core.Path.{_≡_, refl, sym, ap, ap₂, _∙_, subst, fun-ext}
 use mathlib.Core.Logic.{_⊎_, inl, inr}
 use mathlib.Core.List.{[], _∷_}
@@ -10,11 +10,11 @@ use native.Mathlib.Omega.{arith}
 use Rattle.algebra.specs.Rings.{RingOps, RingLaws, IsField}
 use Rattle.algebra.specs.Series.{total, constant, series, shift, scale, Polynomial}
 use Rattle.algebra.specs.Divisors.{AllZero}
+use Rattle.algebra.proofs.Rows as Rows
 use Rattle.algebra.proofs.Sums as Sums
 use Rattle.algebra.proofs.Solver.{solve, var, _⊞_, neg}
 use Rattle.algebra.proofs.Series as S
 use Rattle.algebra.proofs.Bounds as Bounds
-use Rattle.algebra.proofs.Exchange as E
 use Rattle.algebra.proofs.Spans as Spans
 use Rattle.algebra.proofs.Places as Places
 use Rattle.algebra.proofs.Places.{at, BelowPlace}
@@ -121,16 +121,16 @@ module _ {M : Type 0} (o : RingOps M) (F : IsField o) (n : ℕ) (positive : zero
     -- add x u_j back
     step : (j : ℕ) → j < m → (x : ℕ → M) → Polynomial o x → (h : ℕ → ℕ → M) → Reduced o n m B u Z (λ i. h i + (- (x · u j i))) → Reduced o n m B u Z h
     step j l x p h s = record {
-      factor = λ a. s .factor a + E.slot j x (λ b. 𝟘) a;
-      polynomials = λ a c. Bounds.polynomial-sum o L (s .factor a) (E.slot j x (λ b. 𝟘) a) (s .polynomials a c) (E.slot-both (Polynomial o) j x 𝟘 a p (Bounds.polynomial-zero o L));
+      factor = λ a. s .factor a + Rows.slot j x (λ b. 𝟘) a;
+      polynomials = λ a c. Bounds.polynomial-sum o L (s .factor a) (Rows.slot j x (λ b. 𝟘) a) (s .polynomials a c) (Rows.slot-both (Polynomial o) j x 𝟘 a p (Bounds.polynomial-zero o L));
       remainder = s .remainder;
       below = s .below;
       inside = s .inside;
       is = λ i.
           solve (series o) SL (h i ∷ (x · u j i) ∷ []) (var 0) (var 0 ⊞ neg (var 1) ⊞ var 1) refl
           ∙ ap₂ _+_ (s .is i) (sym (Spans.total-slot (series o) SL m j x (λ a. u a i) l))
-          ∙ solve (series o) SL (total (series o) m (λ a. s .factor a · u a i) ∷ s .remainder i ∷ total (series o) m (λ a. E.slot j x (λ b. 𝟘) a · u a i) ∷ []) (var 0 ⊞ var 1 ⊞ var 2) (var 0 ⊞ var 2 ⊞ var 1) refl
-          ∙ ap (λ t. t + s .remainder i) (sym (Sums.total-sum (series o) SL m (λ a. s .factor a · u a i) (λ a. E.slot j x (λ b. 𝟘) a · u a i)) ∙ Sums.total-ext (series o) SL m (λ a. s .factor a · u a i + E.slot j x (λ b. 𝟘) a · u a i) (λ a. (s .factor a + E.slot j x (λ b. 𝟘) a) · u a i) (λ a c. sym (Sums.sum-product (series o) SL (s .factor a) (E.slot j x (λ b. 𝟘) a) (u a i))));
+          ∙ solve (series o) SL (total (series o) m (λ a. s .factor a · u a i) ∷ s .remainder i ∷ total (series o) m (λ a. Rows.slot j x (λ b. 𝟘) a · u a i) ∷ []) (var 0 ⊞ var 1 ⊞ var 2) (var 0 ⊞ var 2 ⊞ var 1) refl
+          ∙ ap (λ t. t + s .remainder i) (sym (Sums.total-sum (series o) SL m (λ a. s .factor a · u a i) (λ a. Rows.slot j x (λ b. 𝟘) a · u a i)) ∙ Sums.total-ext (series o) SL m (λ a. s .factor a · u a i + Rows.slot j x (λ b. 𝟘) a · u a i) (λ a. (s .factor a + Rows.slot j x (λ b. 𝟘) a) · u a i) (λ a c. sym (Sums.sum-product (series o) SL (s .factor a) (Rows.slot j x (λ b. 𝟘) a) (u a i))));
     }
 
     pub reduce : (Q : ℕ) (h : ℕ → ℕ → M) → Z h → BelowPlace o n Q h → Reduced o n m B u Z h

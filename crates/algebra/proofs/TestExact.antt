@@ -13,6 +13,7 @@ use Rattle.algebra.specs.Frames.{FrameColumns}
 use Rattle.algebra.specs.Optimal.{PolynomialVector, DegreeAtMost, Syzygy, ExactlyOneSum, OrderedSyzygies, DegreeOptimal}
 use Rattle.algebra.specs.DegreeTest.{PassesTest}
 use Rattle.algebra.specs.Theorems.{TestByDegrees}
+use Rattle.algebra.proofs.Rows as Rows
 use Rattle.algebra.proofs.Sums as Sums
 use Rattle.algebra.proofs.Series as S
 use Rattle.algebra.proofs.Fields as Fields
@@ -21,7 +22,6 @@ use Rattle.algebra.proofs.Degrees as D
 use Rattle.algebra.proofs.Gcd as G
 use Rattle.algebra.proofs.Exchange as E
 use Rattle.algebra.proofs.Spans as Spans
-use Rattle.algebra.proofs.Pivots as Pivots
 use Rattle.algebra.proofs.Naturals as Naturals
 use Rattle.algebra.proofs.Counting as Counting
 use Rattle.algebra.proofs.DividedRow as R
@@ -129,7 +129,7 @@ module _ {M : Type 0} (o : RingOps M) (F : IsField o) (m d : ℕ) (r : ℕ → �
   -- the check columns are syzygies
   pub syzygies : (j : ℕ) → j < m → Syzygy o n r (w j)
   syzygies =
-      let X = E.choose {A = ℕ → ℕ → M} (λ l x. record { inside : (j : ℕ) → j < m → Polynomial o (x j); is : (i : ℕ) → i < n → u l i ≡ total (series o) m (λ j. x j · w j i) }) (λ j. 𝟘) m (λ l b. let x = basis (u l) (u-polynomials l b) (f .check l b) in (x .factor, record { inside = x .polynomials; is = x .is })) in
+      let X = Rows.choose {A = ℕ → ℕ → M} (λ l x. record { inside : (j : ℕ) → j < m → Polynomial o (x j); is : (i : ℕ) → i < n → u l i ≡ total (series o) m (λ j. x j · w j i) }) (λ j. 𝟘) m (λ l b. let x = basis (u l) (u-polynomials l b) (f .check l b) in (x .factor, record { inside = x .polynomials; is = x .is })) in
       syzygies-of-basis o F n m r u w (X .0) (λ i a. (suc d, v .bounded i a)) w-polynomials (λ l j a b. X .1 l a .inside j b) (λ l i a b. X .1 l a .is i b) (f .check) u-independent
 
   zero-syzygy : Syzygy o n r (λ i. 𝟘)
@@ -139,12 +139,12 @@ module _ {M : Type 0} (o : RingOps M) (F : IsField o) (m d : ℕ) (r : ℕ → �
   nonzero : (j : ℕ) → j < m → AllZero o n (w j) → ⊥
   nonzero j l z =
       let x = basis (λ i. 𝟘) (λ i a. B.polynomial-zero o L) zero-syzygy in
-      let by-unit = x .unique (E.slot j 𝟙 (λ i. 𝟘)) (λ t b. E.slot-both (Polynomial o) j 𝟙 𝟘 t (B.polynomial-constant o L I) (B.polynomial-zero o L)) (λ i a. sym (Spans.total-slot (series o) SL m j 𝟙 (λ t. w t i) l ∙ ap (λ t. 𝟙 · t) (z i a) ∙ Sums.product-zero (series o) SL 𝟙)) j l in
+      let by-unit = x .unique (Rows.slot j 𝟙 (λ i. 𝟘)) (λ t b. Rows.slot-both (Polynomial o) j 𝟙 𝟘 t (B.polynomial-constant o L I) (B.polynomial-zero o L)) (λ i a. sym (Spans.total-slot (series o) SL m j 𝟙 (λ t. w t i) l ∙ ap (λ t. 𝟙 · t) (z i a) ∙ Sums.product-zero (series o) SL 𝟙)) j l in
       let by-zero = x .unique (λ t. 𝟘) (λ t b. B.polynomial-zero o L) (λ i a. sym (Sums.total-zero (series o) SL m (λ t. 𝟘 · w t i) (λ t b. Sums.zero-product (series o) SL (w t i)))) j l in
-      D.one-nonzero o F (sym (E.slot-at j 𝟙 (λ i. 𝟘)) ∙ by-unit ∙ sym by-zero)
+      D.one-nonzero o F (sym (Rows.slot-at j 𝟙 (λ i. 𝟘)) ∙ by-unit ∙ sym by-zero)
 
   degrees-chosen : (δ : ℕ → ℕ) × ((j : ℕ) → j < m → VectorDegree o n (w j) (δ j))
-  degrees-chosen = E.choose {A = ℕ} (λ j e. VectorDegree o n (w j) e) 0 m (λ j l. degree j l (R.vector-zero-or-degree o F n (B.common-bound o L n (w j) (w-polynomials j l) .0) (w j) (B.common-bound o L n (w j) (w-polynomials j l) .1)))
+  degrees-chosen = Rows.choose {A = ℕ} (λ j e. VectorDegree o n (w j) e) 0 m (λ j l. degree j l (R.vector-zero-or-degree o F n (B.common-bound o L n (w j) (w-polynomials j l) .0) (w j) (B.common-bound o L n (w j) (w-polynomials j l) .1)))
     where
       degree : (j : ℕ) (l : j < m)
           → AllZero o n (w j) ⊎ ((e : ℕ) × (e < B.common-bound o L n (w j) (w-polynomials j l) .0) × VectorDegree o n (w j) e)
@@ -225,15 +225,15 @@ module _ {M : Type 0} (o : RingOps M) (F : IsField o) (m d : ℕ) (r : ℕ → �
 
           -- w 0 .. w (t - 1) and w j
           family : ℕ → ℕ → M
-          family = E.slot t (lead j) lead
+          family = Rows.slot t (lead j) lead
 
           w-spanned : (i : ℕ) → i < m → δ i ≤ δ j → Spanned o All t n (λ l a. u l a (k l)) (lead i)
           w-spanned i b e = Optimal.top-spanned o F m d r v p c f (δ i) t t-le (λ a y z. let q = high a y z in omega arith) (w i) (w-polynomials i b) (syzygies i b) (w-bounded i b)
 
           family-spanned : (i : ℕ) → i < suc t → Spanned o All t n (λ l a. u l a (k l)) (family i)
           family-spanned i b = elim (eq-or-lt-of-le (le-of-suc-le-suc b)) [
-            | inl e ↦ subst (Spanned o All t n (λ l a. u l a (k l))) (sym (ap family e ∙ E.slot-at t (lead j) lead)) (w-spanned j l (le-refl (δ j)))
-            | inr e ↦ subst (Spanned o All t n (λ l a. u l a (k l))) (sym (Pivots.slot-low t (lead j) lead i e)) (w-spanned i (omega arith) (let y = degree-le i (omega arith) in let z = low i e in omega arith))
+            | inl e ↦ subst (Spanned o All t n (λ l a. u l a (k l))) (sym (ap family e ∙ Rows.slot-at t (lead j) lead)) (w-spanned j l (le-refl (δ j)))
+            | inr e ↦ subst (Spanned o All t n (λ l a. u l a (k l))) (sym (Rows.slot-low t (lead j) lead i e)) (w-spanned i (omega arith) (let y = degree-le i (omega arith) in let z = low i e in omega arith))
           ]
 
           x : Dependent o All (suc t) n family
@@ -241,22 +241,22 @@ module _ {M : Type 0} (o : RingOps M) (F : IsField o) (m d : ℕ) (r : ℕ → �
 
           -- the factors, at the places of all m vectors
           X : ℕ → M
-          X i = Spans.cut o t (x .factor) i ⊕ E.slot j (x .factor t) (λ a. O) i
+          X i = Rows.cut o t (x .factor) i ⊕ Rows.slot j (x .factor t) (λ a. O) i
 
           family-sum : (a : ℕ) → total o (suc t) (λ i. x .factor i ⊙ family i a) ≡ total o t (λ i. x .factor i ⊙ lead i a) ⊕ x .factor t ⊙ lead j a
           family-sum a =
               Sums.total-last o L t (λ i. x .factor i ⊙ family i a)
               ∙ ap₂ _⊕_
-              (Sums.total-ext o L t (λ i. x .factor i ⊙ family i a) (λ i. x .factor i ⊙ lead i a) (λ i b. ap (λ (g : ℕ → M). x .factor i ⊙ g a) (Pivots.slot-low t (lead j) lead i b)))
-              (ap (λ (g : ℕ → M). x .factor t ⊙ g a) (E.slot-at t (lead j) lead))
+              (Sums.total-ext o L t (λ i. x .factor i ⊙ family i a) (λ i. x .factor i ⊙ lead i a) (λ i b. ap (λ (g : ℕ → M). x .factor i ⊙ g a) (Rows.slot-low t (lead j) lead i b)))
+              (ap (λ (g : ℕ → M). x .factor t ⊙ g a) (Rows.slot-at t (lead j) lead))
 
           X-sum : (a : ℕ) → total o m (λ i. X i ⊙ lead i a) ≡ total o t (λ i. x .factor i ⊙ lead i a) ⊕ x .factor t ⊙ lead j a
           X-sum a =
-              Sums.total-ext o L m (λ i. X i ⊙ lead i a) (λ i. Spans.cut o t (x .factor) i ⊙ lead i a ⊕ E.slot j (x .factor t) (λ b. O) i ⊙ lead i a) (λ i b. Sums.sum-product o L (Spans.cut o t (x .factor) i) (E.slot j (x .factor t) (λ b. O) i) (lead i a))
-              ∙ Sums.total-sum o L m (λ i. Spans.cut o t (x .factor) i ⊙ lead i a) (λ i. E.slot j (x .factor t) (λ b. O) i ⊙ lead i a)
+              Sums.total-ext o L m (λ i. X i ⊙ lead i a) (λ i. Rows.cut o t (x .factor) i ⊙ lead i a ⊕ Rows.slot j (x .factor t) (λ b. O) i ⊙ lead i a) (λ i b. Sums.sum-product o L (Rows.cut o t (x .factor) i) (Rows.slot j (x .factor t) (λ b. O) i) (lead i a))
+              ∙ Sums.total-sum o L m (λ i. Rows.cut o t (x .factor) i ⊙ lead i a) (λ i. Rows.slot j (x .factor t) (λ b. O) i ⊙ lead i a)
               ∙ ap₂ _⊕_
-              (Spans.total-truncate o L t m (λ i. Spans.cut o t (x .factor) i ⊙ lead i a) t-le (λ i b e. ap (λ z. z ⊙ lead i a) (Spans.cut-high o t (x .factor) i b) ∙ Sums.zero-product o L (lead i a))
-              ∙ Sums.total-ext o L t (λ i. Spans.cut o t (x .factor) i ⊙ lead i a) (λ i. x .factor i ⊙ lead i a) (λ i b. ap (λ z. z ⊙ lead i a) (Spans.cut-low o t (x .factor) i b)))
+              (Spans.total-truncate o L t m (λ i. Rows.cut o t (x .factor) i ⊙ lead i a) t-le (λ i b e. ap (λ z. z ⊙ lead i a) (Rows.cut-high o t (x .factor) i b) ∙ Sums.zero-product o L (lead i a))
+              ∙ Sums.total-ext o L t (λ i. Rows.cut o t (x .factor) i ⊙ lead i a) (λ i. x .factor i ⊙ lead i a) (λ i b. ap (λ z. z ⊙ lead i a) (Rows.cut-low o t (x .factor) i b)))
               (Spans.total-slot o L m j (x .factor t) (λ i. lead i a) l)
 
           X-zero : (i : ℕ) → i < m → X i ≡ O
@@ -264,8 +264,8 @@ module _ {M : Type 0} (o : RingOps M) (F : IsField o) (m d : ℕ) (r : ℕ → �
 
           all-zero : (i : ℕ) → i < suc t → x .factor i ≡ O
           all-zero i b = elim (eq-or-lt-of-le (le-of-suc-le-suc b)) [
-            | inl e ↦ ap (x .factor) e ∙ sym (ap₂ _⊕_ (Spans.cut-high o t (x .factor) j behind) (E.slot-at j (x .factor t) (λ a. O)) ∙ Sums.zero-sum o L (x .factor t)) ∙ X-zero j l
-            | inr e ↦ sym (ap₂ _⊕_ (Spans.cut-low o t (x .factor) i e) (E.slot-off j (x .factor t) O i (λ q. omega arith)) ∙ L .sum-zero (x .factor i)) ∙ X-zero i (omega arith)
+            | inl e ↦ ap (x .factor) e ∙ sym (ap₂ _⊕_ (Rows.cut-high o t (x .factor) j behind) (Rows.slot-at j (x .factor t) (λ a. O)) ∙ Sums.zero-sum o L (x .factor t)) ∙ X-zero j l
+            | inr e ↦ sym (ap₂ _⊕_ (Rows.cut-low o t (x .factor) i e) (Rows.slot-off j (x .factor t) O i (λ q. omega arith)) ∙ L .sum-zero (x .factor i)) ∙ X-zero i (omega arith)
           ]
 
   pub same-degrees : (j : ℕ) → j < m → δ j ≡ k j

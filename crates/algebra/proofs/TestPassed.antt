@@ -13,6 +13,7 @@ use Rattle.algebra.specs.Independence.{All, Domain, Spanned, Independent}
 use Rattle.algebra.specs.Frames.{FrameColumns}
 use Rattle.algebra.specs.Optimal.{PolynomialVector, DegreeAtMost, Syzygy, ExactlyOneSum, OrderedSyzygies, DegreeOptimal}
 use Rattle.algebra.specs.DegreeTest.{PassesTest}
+use Rattle.algebra.proofs.Rows as Rows
 use Rattle.algebra.proofs.Sums as Sums
 use Rattle.algebra.proofs.Solver.{solve, var, _⊞_, neg}
 use Rattle.algebra.proofs.Series as S
@@ -122,7 +123,7 @@ module _ {M : Type 0} (o : RingOps M) (F : IsField o) (m d : ℕ) (r : ℕ → �
     where
       go : (t : ℕ) × (t ≤ m) × ((j : ℕ) → j < t → δ j ≤ N) × ((j : ℕ) → t ≤ j → j < m → N < δ j)
           → (y : ℕ → M) × ((j : ℕ) → j < m → N < δ j → y j ≡ O) × ((i : ℕ) → i < n → h i N ≡ total o m (λ j. y j ⊙ w j i (δ j)))
-      go (t, t-le, low, high) = (Spans.cut o t (spanned .factor), off, is)
+      go (t, t-le, low, high) = (Rows.cut o t (spanned .factor), off, is)
         where
           higher : (K l : ℕ) → K ≤ N → t ≤ l → l < m → K < k l
           higher K l a b c = let x = high l b c in let e = same-degrees l c in omega arith
@@ -136,14 +137,14 @@ module _ {M : Type 0} (o : RingOps M) (F : IsField o) (m d : ℕ) (r : ℕ → �
               (E.spanned-of-independent-members o F t n (λ l i. u l i (k l)) (λ j i. w j i (δ j)) (Spans.independent-prefix o L All members t m n (λ j i. w j i (δ j)) t-le independent) w-spanned)
               (Optimal.top-spanned o F m d r v p c f N t t-le (λ l a e. higher N l (le-refl N) a e) h q s b)
 
-          off : (j : ℕ) → j < m → N < δ j → Spans.cut o t (spanned .factor) j ≡ O
-          off j a e = elim (decLt j t) [ yes x ↦ absurd (let y = low j x in omega arith) | no x ↦ Spans.cut-high o t (spanned .factor) j (omega arith) ]
+          off : (j : ℕ) → j < m → N < δ j → Rows.cut o t (spanned .factor) j ≡ O
+          off j a e = elim (decLt j t) [ yes x ↦ absurd (let y = low j x in omega arith) | no x ↦ Rows.cut-high o t (spanned .factor) j (omega arith) ]
 
-          is : (i : ℕ) → i < n → h i N ≡ total o m (λ j. Spans.cut o t (spanned .factor) j ⊙ w j i (δ j))
+          is : (i : ℕ) → i < n → h i N ≡ total o m (λ j. Rows.cut o t (spanned .factor) j ⊙ w j i (δ j))
           is i a =
               spanned .is i a
-              ∙ Sums.total-ext o L t (λ j. spanned .factor j ⊙ w j i (δ j)) (λ j. Spans.cut o t (spanned .factor) j ⊙ w j i (δ j)) (λ j e. ap (λ z. z ⊙ w j i (δ j)) (sym (Spans.cut-low o t (spanned .factor) j e)))
-              ∙ sym (Spans.total-truncate o L t m (λ j. Spans.cut o t (spanned .factor) j ⊙ w j i (δ j)) t-le (λ j e x. ap (λ z. z ⊙ w j i (δ j)) (Spans.cut-high o t (spanned .factor) j e) ∙ Sums.zero-product o L (w j i (δ j))))
+              ∙ Sums.total-ext o L t (λ j. spanned .factor j ⊙ w j i (δ j)) (λ j. Rows.cut o t (spanned .factor) j ⊙ w j i (δ j)) (λ j e. ap (λ z. z ⊙ w j i (δ j)) (sym (Rows.cut-low o t (spanned .factor) j e)))
+              ∙ sym (Spans.total-truncate o L t m (λ j. Rows.cut o t (spanned .factor) j ⊙ w j i (δ j)) t-le (λ j e x. ap (λ z. z ⊙ w j i (δ j)) (Rows.cut-high o t (spanned .factor) j e) ∙ Sums.zero-product o L (w j i (δ j))))
 
   -- every syzygy is a sum of polynomial multiples of the w
   generated : (N : ℕ) (h : ℕ → ℕ → M) → Bounded o n N h → Syzygy o n r h

@@ -8,3 +8,4 @@ pub mod Frames
 pub mod Optimal
 pub mod DegreeTest
 pub mod Link
+pub mod Lists
