@@ -4,25 +4,28 @@ use mathlib.Core.Bool.{Bool, true, false, true≢false}
 use mathlib.Core.Path.{_≡_, refl, sym, ap, ap₂, _∙_, subst, fun-ext}
 use mathlib.Core.Logic.{inl, inr}
 use Prim.Native.Nat.{ℕ, zero, suc, _≤_, _<_, zero-le, suc-le-suc, _*_, _/_, _%_, _-_, _+_ as _plus_}
-use native.Mathlib.Nat.{le-of-suc-le-suc, not-suc-le-zero, le-refl, eq-or-lt-of-le, mod-lt, div-add-mod, mul-add, mul-suc, mul-le-mul-left}
+use native.Mathlib.Nat.{le-of-suc-le-suc, not-suc-le-zero, le-refl, le-antisymm, eq-or-lt-of-le, mod-lt, div-add-mod, mul-add, mul-suc, mul-le-mul-left}
 use native.Mathlib.Decide.{decLt, ℕ-discrete}
 use native.Mathlib.Omega.{arith}
 use Rattle.algebra.specs.Rings.{RingOps, RingLaws, IsField}
-use Rattle.algebra.specs.Series.{total, dot, series}
-use Rattle.algebra.specs.Independence.{All, Domain, Spanned, Solution}
+use Rattle.algebra.specs.Series.{total, dot, series, Below}
+use Rattle.algebra.specs.Independence.{All, Domain, Spanned, Independent, Solution}
 use Rattle.algebra.specs.Divisors.{Combination, DividedRow, MonicGcd, VectorDegree}
 use Rattle.algebra.specs.Places.{place-list, NonPivotal, Pivotal, Basic, BasicPlaces}
 use Rattle.algebra.specs.Frames.{FrameColumns, IsFrame}
 use Rattle.algebra.specs.Scanning.{InClass, Scanned, AtPivots, ReadOff}
+use Rattle.algebra.proofs.Rows as Rows
 use Rattle.algebra.proofs.Sums as Sums
+use Rattle.algebra.proofs.Bounds as Bounds
 use Rattle.algebra.proofs.Exchange as Exchange
 use Rattle.algebra.proofs.Spans as Spans
 use Rattle.algebra.proofs.Pivots as Pivots
+use Rattle.algebra.proofs.DividedRow as R
 use Rattle.algebra.proofs.Places as Places
 use Rattle.algebra.proofs.Reduction as Reduction
 use Rattle.algebra.proofs.Syzygies as Syzygies
 use Rattle.algebra.proofs.Classes as Classes
-use Rattle.algebra.proofs.Classes.{FirstNonPivotal}
+use Rattle.algebra.proofs.BasicPlaces as Basics
 
 -- what holds below k and at k holds below k + 1
 up-to : (Q : ℕ → Type 0) (k : ℕ) → ((t : ℕ) → t < k → Q t) → Q k → (t : ℕ) → t < suc k → Q t
@@ -36,6 +39,75 @@ rising-more k f g x rising less same here i j h l =
     (λ t b a. let e = same i (omega arith) in let z = same t b in let w = rising i t a b in omega arith)
     (λ a. let e = same i a in let w = less i a in omega arith)
     j l h
+
+-- of two rising lists of numbers, the first among the second, the first is nowhere behind
+rising-nowhere-behind : (b m : ℕ) (f g : ℕ → ℕ) → ((i j : ℕ) → i < j → j < b → f i < f j) → ((i j : ℕ) → i < j → j < m → g i < g j)
+    → ((j : ℕ) → j < b → (k : ℕ) × (k < m) × (g k ≡ f j)) → (j k : ℕ) → j < b → k < m → g k ≡ f j → j ≤ k
+rising-nowhere-behind b m f g rising-f rising-g among zero k l a e = zero-le
+rising-nowhere-behind b m f g rising-f rising-g among (suc j) k l a e =
+    let x = among j (omega arith) in
+    go (x .0) (x .1) (x .2) (rising-nowhere-behind b m f g rising-f rising-g among j (x .0) (omega arith) (x .1) (x .2)) (rising-f j (suc j) (le-refl (suc j)) l)
+  where
+    go : (i : ℕ) → i < m → g i ≡ f j → j ≤ i → f j < f (suc j) → suc j ≤ k
+    go i w same low less = elim (decLt i k) [
+      | yes h ↦ omega arith
+      | no h ↦ elim (decLt k i) [
+        | yes h′ ↦ absurd (let z = rising-g k i h′ w in omega arith)
+        | no h′ ↦ absurd (let z : i ≡ k = omega arith in let y = ap g z in omega arith)
+      ]
+    ]
+
+-- so it is no longer
+rising-no-longer : (b m : ℕ) (f g : ℕ → ℕ) → ((i j : ℕ) → i < j → j < b → f i < f j) → ((i j : ℕ) → i < j → j < m → g i < g j)
+    → ((j : ℕ) → j < b → (k : ℕ) × (k < m) × (g k ≡ f j)) → b ≤ m
+rising-no-longer zero m f g rising-f rising-g among = zero-le
+rising-no-longer (suc b) m f g rising-f rising-g among =
+    let x = among b (le-refl (suc b)) in
+    let low = rising-nowhere-behind (suc b) m f g rising-f rising-g among b (x .0) (le-refl (suc b)) (x .1) (x .2) in
+    let lt = x .1 in
+    omega arith
+
+-- zero at one number, f elsewhere
+abbrev cleared : {M : Type 0} {A : Type 0} → RingOps M → Dec A → M → M
+cleared o (yes a) x = o .zero
+cleared o (no a) x = x
+
+cleared-yes : {M : Type 0} {A : Type 0} (o : RingOps M) (x : Dec A) (y : M) → A → cleared o x y ≡ o .zero
+cleared-yes o (yes a) y h = refl
+cleared-yes o (no a) y h = absurd (a h)
+
+cleared-no : {M : Type 0} {A : Type 0} (o : RingOps M) (x : Dec A) (y : M) → (A → ⊥) → cleared o x y ≡ y
+cleared-no o (yes a) y h = absurd (h a)
+cleared-no o (no a) y h = refl
+
+module _ {M : Type 0} (o : RingOps M) (L : RingLaws o) where
+  open RingOps o using (zero as O, sum as _+_)
+
+  infixl 60 _+_
+  -- a sum whose terms are zero but at rising places is the sum over these
+  pub total-at-places : (rank Q : ℕ) (P : ℕ → ℕ) (f : ℕ → M) → ((s t : ℕ) → s < t → t < rank → P s < P t) → ((t : ℕ) → t < rank → P t < Q)
+      → ((q : ℕ) → q < Q → ((t : ℕ) → t < rank → P t ≡ q → ⊥) → f q ≡ O) → total o Q f ≡ total o rank (λ t. f (P t))
+  total-at-places zero Q P f rising below off = Sums.total-zero o L Q f (λ q l. off q l (λ t a. absurd (not-suc-le-zero a)))
+  total-at-places (suc T) Q P f rising below off =
+      let last = below T (le-refl (suc T)) in
+      Spans.total-truncate o L (suc (P T)) Q f last (λ q a l. off q l (λ t c e. let z = not-above t c in omega arith))
+      ∙ Sums.total-last o L (P T) f
+      ∙ ap (λ x. x + f (P T)) (total-at-places T (P T) P f (λ s t a l. rising s t a (omega arith)) (λ t l. rising t T l (le-refl (suc T))) (λ q l others. off q (omega arith) (up-to (λ t. P t ≡ q → ⊥) T others (λ e. omega arith))))
+      ∙ sym (Sums.total-last o L T (λ t. f (P t)))
+    where
+      not-above : (t : ℕ) → t < suc T → P t ≤ P T
+      not-above = up-to (λ t. P t ≤ P T) T (λ t l. let z = rising t T l (le-refl (suc T)) in omega arith) (le-refl (P T))
+
+  -- a sum with one term set to zero
+  pub total-apart : (Q p : ℕ) (f g : ℕ → M) → p < Q → ((q : ℕ) → q < Q → (q ≡ p → ⊥) → f q ≡ g q) → g p ≡ O → total o Q f ≡ f p + total o Q g
+  total-apart zero p f g l same z = absurd (not-suc-le-zero l)
+  total-apart (suc Q) p f g l same z =
+      Sums.total-skip o L Q p f l
+      ∙ ap (λ x. f p + x)
+      (Sums.total-ext o L Q (λ j. f (Rows.skip p j)) (λ j. g (Rows.skip p j)) (λ j a. same (Rows.skip p j) (Rows.skip-lt p Q j a) (Rows.skip-ne p j))
+      ∙ sym (Sums.zero-sum o L (total o Q (λ j. g (Rows.skip p j))))
+      ∙ ap (λ x. x + total o Q (λ j. g (Rows.skip p j))) (sym z)
+      ∙ sym (Sums.total-skip o L Q p g l))
 
 module _ {M : Type 0} (o : RingOps M) (F : IsField o) (m d : ℕ) (r : ℕ → ℕ → M) (v : VectorDegree o (suc m) r d) where
   abbrev L : RingLaws o
@@ -266,3 +338,50 @@ module _ {M : Type 0} (o : RingOps M) (F : IsField o) (m d : ℕ) (r : ℕ → �
         has-not i l e (no f) x = up-to (λ j. B′ j % n ≡ i → ⊥) b
             (λ j a y. s .has-not i l (sym (found-same i l f) ∙ e) (j, a, ap (λ t. t % n) (sym (same j a)) ∙ y))
             (λ y. f (sym y ∙ ap (λ t. t % n) here)) (x .0) (x .1) (x .2)
+
+  module _ (rank : ℕ) (P : ℕ → ℕ) (b : ℕ) (B : ℕ → ℕ) (E : ℕ → ℕ → M) (found : ℕ → Bool) (s : Scanned o n d r (n * suc d) rank P b B E found) where
+    all-basics : BasicPlaces o n d r b B
+    all-basics = record { basic = s .basic; rising = s .basics-rising; every = λ q c. s .every q (c .within) c }
+
+    -- when all places have been walked, the m basic places are found
+    pub scanned-end : (b ≡ m) × BasicPlaces o n d r m B
+    scanned-end = (count, subst (λ t. BasicPlaces o n d r t B) count all-basics)
+      where
+        known : BasicPlaces o n d r m (Basics.basic-place o F m d r v)
+        known = Basics.basic-places o F m d r v
+
+        count : b ≡ m
+        count =
+            le-antisymm
+            (rising-no-longer b m B (Basics.basic-place o F m d r v) (s .basics-rising) (known .rising) (λ j l. known .every (B j) (s .basic j l)))
+            (rising-no-longer m b (Basics.basic-place o F m d r v) B (known .rising) (s .basics-rising) (λ j l. all-basics .every (Basics.basic-place o F m d r v j) (known .basic j l)))
+
+    module _ (combination : Combination o n r (series o .one)) where
+      -- every polynomial below s^(2d+1) is then a sum of multiples of the lists at the pivotal places
+      pub small-spanned : (f : ℕ → M) → Below o width f → Spanned o All rank width (lists P) f
+      small-spanned f small =
+          let h = R.small-combination o F n d r (λ i l. (suc d, v .bounded i l)) combination v f small in
+          Spans.spanned-trans o L All members rank places width (lists P) list f (s .spanned) (record {
+            factor = Places.at n (h .vector);
+            inside = λ q l. tt;
+            is = λ k l. ap (λ (t : ℕ → M). t k) (sym (h .is)) ∙ Places.dot-places o L n places r (h .vector) k positive (Places.below-place-of-bounded n positive o (suc d) (h .vector) (h .bounded));
+          })
+
+      -- so is the unit list
+      pub unit-spanned : Spanned o All rank width (lists P) (series o .one)
+      unit-spanned = small-spanned (series o .one) (Bounds.below-mono o L 1 width (series o .one) (omega arith) (Bounds.below-constant o L (o .one)))
+
+      -- and 2d + 1 pivotal places are found
+      pub rank-is : rank ≡ width
+      rank-is = elim (decLt rank width) [
+        | yes l ↦ absurd (Exchange.not-independent o L All members width width unit (Exchange.dependent-of-spanned o L All members rank width width (lists P) unit l (λ j a. small-spanned (unit j) (λ k c. Rows.slot-off k (o .one) (o .zero) j (λ e. omega arith)))) independent)
+        | no l ↦ let h = rank-at-most (n * suc d) rank P b B E found s in omega arith
+      ]
+        where
+          unit : ℕ → ℕ → M
+          unit j k = Rows.slot k (o .one) (λ i. o .zero) j
+
+          independent : Independent o All width width unit
+          independent x i e k l =
+              sym (Sums.total-ext o L width (λ j. o .product (x j) (unit j k)) (λ j. o .product (unit j k) (x j)) (λ j a. L .product-comm (x j) (unit j k)) ∙ Spans.total-slot o L width k (o .one) x l ∙ Sums.one-product o L (x k))
+              ∙ e k l
