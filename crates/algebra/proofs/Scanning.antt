@@ -157,6 +157,13 @@ module _ {M : Type 0} (o : RingOps M) (F : IsField o) (m d : ℕ) (r : ℕ → �
           (λ k b. Sums.total-ext o L T (λ t. o .product (x t) (list (P t) k)) (λ t. o .product (list (P t) k) (x t)) (λ t a. L .product-comm (x t) (list (P t) k)) ∙ s .solves k b)
           (s .not-all-zero .place) (s .not-all-zero .within))
 
+  -- rising basic places are at most m
+  pub basics-at-most : (T : ℕ) (B : ℕ → ℕ) → ((j : ℕ) → j < T → Basic o n d r (B j)) → ((i j : ℕ) → i < j → j < T → B i < B j) → T ≤ m
+  basics-at-most T B basic rising =
+      let known = Basics.basic-places o F m d r v in
+      rising-no-longer T m B (Basics.basic-place o F m d r v) rising (known .rising) (λ j l. known .every (B j) (basic j l))
+
+  -- nothing has been walked
   pub scanned-start : (P B : ℕ → ℕ) (E : ℕ → ℕ → M) (found : ℕ → Bool) → ((i : ℕ) → i < n → found i ≡ false) → Scanned o n d r 0 0 P 0 B E found
   scanned-start P B E found none = record {
     pivotal = λ t l. absurd (not-suc-le-zero l);
@@ -291,6 +298,14 @@ module _ {M : Type 0} (o : RingOps M) (F : IsField o) (m d : ℕ) (r : ℕ → �
             let x = s .every (n * f .power plus q % n) (let y = before in omega arith) (Classes.basic-of-first o F n positive d r v (q % n) (mod-lt q positive) f) in
             (x .0, x .1, ap (λ t. t % n) (x .2) ∙ Places.place-mod n (f .power) (q % n) (mod-lt q positive))
 
+    -- a place is basic when its class has no basic place yet and its list is a sum of multiples of the lists at the pivotal places found
+    pub basic-here : q < places → found (q % n) ≡ false → Spanned o All rank width (lists P) (list q) → Basic o n d r q
+    basic-here within unknown of-found = record {
+      within = within;
+      non-pivotal = spanned-below q rank P (list q) (s .pivots-walked) of-found;
+      first = λ p e non-pivotal further. s .has-not (q % n) (mod-lt q positive) unknown (class-found p e within non-pivotal further);
+    }
+
     -- a place whose class has no basic place, and whose list is a sum of multiples of the lists at the pivotal places found
     pub scanned-basic : (B′ : ℕ → ℕ) (E′ : ℕ → ℕ → M) (found′ : ℕ → Bool)
         → ((j : ℕ) → j < b → B′ j ≡ B j) → B′ b ≡ q
@@ -324,11 +339,7 @@ module _ {M : Type 0} (o : RingOps M) (F : IsField o) (m d : ℕ) (r : ℕ → �
         of-found = record { factor = E′ b; inside = λ t l. tt; is = multiples }
 
         new : Basic o n d r q
-        new = record {
-          within = within;
-          non-pivotal = spanned-below q rank P (list q) (s .pivots-walked) of-found;
-          first = λ p e non-pivotal further. s .has-not (q % n) (mod-lt q positive) unknown (class-found p e within non-pivotal further);
-        }
+        new = basic-here within unknown of-found
 
         has : (i : ℕ) → i < n → found′ i ≡ true → InClass n (suc b) B′ i
         has i l e = go (ℕ-discrete i (q % n))
@@ -342,6 +353,19 @@ module _ {M : Type 0} (o : RingOps M) (F : IsField o) (m d : ℕ) (r : ℕ → �
         has-not i l e (no f) x = up-to (λ j. B′ j % n ≡ i → ⊥) b
             (λ j a y. s .has-not i l (sym (found-same i l f) ∙ e) (j, a, ap (λ t. t % n) (sym (same j a)) ∙ y))
             (λ y. f (sym y ∙ ap (λ t. t % n) here)) (x .0) (x .1) (x .2)
+
+    -- one more pivotal place leaves them at most 2d + 1
+    pub pivot-room : (Spanned o All rank width (lists P) (list q) → ⊥) → rank < width
+    pivot-room unspanned =
+        let x = scanned-pivot (Rows.slot rank q P) (λ t l. Rows.slot-low rank q P t l) (Rows.slot-at rank q P) unspanned in
+        pivots-at-most (suc rank) (Rows.slot rank q P) (x .pivotal) (x .pivots-rising)
+
+    -- one more basic place leaves them at most m
+    pub basic-room : q < places → found (q % n) ≡ false → Spanned o All rank width (lists P) (list q) → b < m
+    basic-room within unknown of-found =
+        basics-at-most (suc b) (Rows.slot b q B)
+        (up-to (λ j. Basic o n d r (Rows.slot b q B j)) b (λ j l. subst (Basic o n d r) (sym (Rows.slot-low b q B j l)) (s .basic j l)) (subst (Basic o n d r) (sym (Rows.slot-at b q B)) (basic-here within unknown of-found)))
+        (rising-more b B (Rows.slot b q B) q (s .basics-rising) (s .basics-walked) (λ j l. Rows.slot-low b q B j l) (Rows.slot-at b q B))
 
   module _ (rank : ℕ) (P : ℕ → ℕ) (b : ℕ) (B : ℕ → ℕ) (E : ℕ → ℕ → M) (found : ℕ → Bool) (s : Scanned o n d r (n * suc d) rank P b B E found) where
     all-basics : BasicPlaces o n d r b B
@@ -357,7 +381,7 @@ module _ {M : Type 0} (o : RingOps M) (F : IsField o) (m d : ℕ) (r : ℕ → �
         count : b ≡ m
         count =
             le-antisymm
-            (rising-no-longer b m B (Basics.basic-place o F m d r v) (s .basics-rising) (known .rising) (λ j l. known .every (B j) (s .basic j l)))
+            (basics-at-most b B (s .basic) (s .basics-rising))
             (rising-no-longer m b (Basics.basic-place o F m d r v) B (known .rising) (s .basics-rising) (λ j l. all-basics .every (Basics.basic-place o F m d r v j) (known .basic j l)))
 
     module _ (combination : Combination o n r (series o .one)) where
