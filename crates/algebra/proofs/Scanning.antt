@@ -1,5 +1,6 @@
 -- Walking the places of a row in order. Main results: scanned-start, scanned-skip, scanned-pivot and scanned-basic (what is known, from one place to the
--- next), scanned-end (the basic places are found), read-off (the columns read off are the frame columns), read-off-is-frame.
+-- next), scanned-end (the m basic places are found), unit-spanned and rank-is (the 2d + 1 pivotal lists make the unit list), read-off (the columns read off are
+-- the frame columns), read-off-is-frame, check-degree and first-degree.
 use mathlib.Core.Bool.{Bool, true, false, true≢false}
 use mathlib.Core.Path.{_≡_, refl, sym, ap, ap₂, _∙_, subst, fun-ext}
 use mathlib.Core.Logic.{_⊎_, inl, inr}
@@ -185,8 +186,36 @@ module _ {M : Type 0} (o : RingOps M) (F : IsField o) (m d : ℕ) (r : ℕ → �
     pub spanned-by-found : NonPivotal o n d r q → Spanned o All rank width (lists P) (list q)
     spanned-by-found = Spans.spanned-trans o L All members rank q width (lists P) list (list q) (s .spanned)
 
+    -- no more than 2d + 1 are found
     pub rank-at-most : rank ≤ width
     rank-at-most = pivots-at-most rank P (s .pivotal) (s .pivots-rising)
+
+    -- what is known depends on the places, multipliers and classes found only
+    pub scanned-same : (P′ B′ : ℕ → ℕ) (E′ : ℕ → ℕ → M) (found′ : ℕ → Bool)
+        → ((t : ℕ) → t < rank → P′ t ≡ P t) → ((j : ℕ) → j < b → B′ j ≡ B j)
+        → ((j t : ℕ) → j < b → t < width → E′ j t ≡ E j t) → ((i : ℕ) → i < n → found′ i ≡ found i)
+        → Scanned o n d r q rank P′ b B′ E′ found′
+    scanned-same P′ B′ E′ found′ P-same B-same E-same found-same = record {
+      pivotal = λ t l. subst (Pivotal o n d r) (sym (P-same t l)) (s .pivotal t l);
+      pivots-walked = λ t l. let e = P-same t l in let f = s .pivots-walked t l in omega arith;
+      pivots-rising = λ i t h l. let e = P-same i (omega arith) in let f = P-same t l in let g = s .pivots-rising i t h l in omega arith;
+      spanned = λ p l. let x = s .spanned p l in record {
+        factor = x .factor;
+        inside = λ t a. tt;
+        is = λ k a. x .is k a ∙ Sums.total-ext o L rank (λ t. o .product (x .factor t) (list (P t) k)) (λ t. o .product (x .factor t) (list (P′ t) k)) (λ t c. ap (λ z. o .product (x .factor t) (list z k)) (sym (P-same t c)));
+      };
+      basic = λ j l. subst (Basic o n d r) (sym (B-same j l)) (s .basic j l);
+      basics-walked = λ j l. let e = B-same j l in let f = s .basics-walked j l in omega arith;
+      basics-rising = λ i j h l. let e = B-same i (omega arith) in let f = B-same j l in let g = s .basics-rising i j h l in omega arith;
+      every = λ p l c. let x = s .every p l c in (x .0, x .1, B-same (x .0) (x .1) ∙ x .2);
+      made = λ j k l a.
+          ap (λ z. list z k) (B-same j l)
+          ∙ s .made j k l a
+          ∙ Sums.total-ext o L rank (λ t. o .product (E j t) (list (P t) k)) (λ t. o .product (E′ j t) (list (P′ t) k)) (λ t c. let w = rank-at-most in ap₂ (λ y z. o .product y (list z k)) (sym (E-same j t l (omega arith))) (sym (P-same t c)));
+      earlier = λ j t l a no-earlier. E-same j t l a ∙ s .earlier j t l a (λ c e. no-earlier c (let f = P-same t c in let g = B-same j l in omega arith));
+      has = λ i l e. let x = s .has i l (sym (found-same i l) ∙ e) in (x .0, x .1, ap (λ z. z % n) (B-same (x .0) (x .1)) ∙ x .2);
+      has-not = λ i l e x. s .has-not i l (sym (found-same i l) ∙ e) (x .0, x .1, ap (λ z. z % n) (sym (B-same (x .0) (x .1))) ∙ x .2);
+    }
 
     -- a place whose class has a basic place
     pub scanned-skip : found (q % n) ≡ true → Scanned o n d r (suc q) rank P b B E found
