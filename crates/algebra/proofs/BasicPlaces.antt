@@ -1,20 +1,19 @@
 -- The basic places of a row of m + 1 polynomials of which some combination is 1. Main results: basic-places (there are exactly m),
 -- pivotal-count (there are exactly 2d + 1 pivotal places), basic-powers-sum (the powers of the basic places add up to d).
-use mathlib.Core.Path.{_≡_, refl, sym, ap, ap₂, _∙_, subst}
-use mathlib.Core.Logic.{_⊎_, inl, inr}
+use mathlib.Core.Path.{_≡_, sym, ap, ap₂, _∙_, subst}
 use Prim.Native.Nat.{ℕ, zero, suc, _≤_, _<_, zero-le, suc-le-suc, _*_, _/_, _%_, _-_, _+_ as _plus_}
-use native.Mathlib.Nat.{le-of-suc-le-suc, not-suc-le-zero, le-refl, mod-lt, div-add-mod, mul-one, add-zero, zero-add}
-use native.Mathlib.Decide.{decLe, decLt, ℕ-discrete}
+use native.Mathlib.Nat.{le-refl, mod-lt, div-add-mod, mul-one, zero-add}
+use native.Mathlib.Decide.{decLt, ℕ-discrete}
 use native.Mathlib.Bridge.{le-prop}
 use native.Mathlib.Omega.{arith}
 use Rattle.algebra.specs.Rings.{RingOps, RingLaws, IsField}
-use Rattle.algebra.specs.Series.{total, dot, constant, series, shift, Below, Polynomial}
-use Rattle.algebra.specs.Divisors.{Combination, VectorDegree, BoundedCombination}
-use Rattle.algebra.specs.Independence.{All, Domain, Spanned, Dependent, Independent}
+use Rattle.algebra.specs.Series.{sum-below, total, constant, series, shift, Polynomial}
+use Rattle.algebra.specs.Divisors.{Combination, VectorDegree}
+use Rattle.algebra.specs.Independence.{All, Domain, Spanned, Independent}
 use Rattle.algebra.specs.Places.{place-list, NonPivotal, Pivotal, Basic, BasicPlaces}
+use Rattle.algebra.proofs.Rows as Rows
 use Rattle.algebra.proofs.Sums as Sums
 use Rattle.algebra.proofs.Series as S
-use Rattle.algebra.proofs.Fields as Fields
 use Rattle.algebra.proofs.Bounds as B
 use Rattle.algebra.proofs.Exchange as E
 use Rattle.algebra.proofs.Spans as Spans
@@ -22,7 +21,7 @@ use Rattle.algebra.proofs.Pivots as Pivots
 use Rattle.algebra.proofs.Pivots.{PivotalSpan}
 use Rattle.algebra.proofs.DividedRow as R
 use Rattle.algebra.proofs.Counting as C
-use Rattle.algebra.proofs.Counting.{sum-below, keep, Enumerated}
+use Rattle.algebra.proofs.Counting.{keep, Enumerated}
 use Rattle.algebra.proofs.Places as Places
 use Rattle.algebra.proofs.Syzygies as Syzygies
 use Rattle.algebra.proofs.Classes as Classes
@@ -60,10 +59,10 @@ module _ {M : Type 0} (o : RingOps M) (F : IsField o) (m d : ℕ) (r : ℕ → �
 
   -- the other classes, in order
   abbrev class : ℕ → ℕ
-  class j = E.skip (cl .free) j
+  class j = Rows.skip (cl .free) j
 
   firsts : (j : ℕ) → j < m → FirstNonPivotal o n d r (class j)
-  firsts j l = cl .first (class j) (E.skip-lt (cl .free) m j l) (E.skip-ne (cl .free) j)
+  firsts j l = cl .first (class j) (Rows.skip-lt (cl .free) m j l) (Rows.skip-ne (cl .free) j)
 
   -- the powers of the first non-pivotal places of the other classes
   power : ℕ → ℕ
@@ -111,11 +110,12 @@ module _ {M : Type 0} (o : RingOps M) (F : IsField o) (m d : ℕ) (r : ℕ → �
       (C.sum-ext m (λ j. sum-below (suc d) (λ k. keep (basic-decides (n * k plus class j)) (f (n * k plus class j)))) (λ j. f (n * power j plus class j)) (λ j l. one-class j l))
       ∙ zero-add (sum-below m (λ j. f (n * power j plus class j)))
     where
-      one-class : (j : ℕ) → j < m → sum-below (suc d) (λ k. keep (basic-decides (n * k plus class j)) (f (n * k plus class j))) ≡ f (n * power j plus class j)
+      one-class : (j : ℕ) → j < m
+          → sum-below (suc d) (λ k. keep (basic-decides (n * k plus class j)) (f (n * k plus class j))) ≡ f (n * power j plus class j)
       one-class j l =
           let x = firsts j l in
           C.sum-single (suc d) (x .power) (λ k. keep (basic-decides (n * k plus class j)) (f (n * k plus class j))) (x .within) (λ k a ne. C.keep-no (basic-decides (n * k plus class j)) (f (n * k plus class j)) (λ b. ne (Classes.first-of-basic o F n positive d r v (class j) k x b)))
-          ∙ C.keep-yes (basic-decides (n * x .power plus class j)) (f (n * x .power plus class j)) (Classes.basic-of-first o F n positive d r v (class j) (E.skip-lt (cl .free) m j l) x)
+          ∙ C.keep-yes (basic-decides (n * x .power plus class j)) (f (n * x .power plus class j)) (Classes.basic-of-first o F n positive d r v (class j) (Rows.skip-lt (cl .free) m j l) x)
           ∙ ap (λ t. f (n * t plus class j)) (sym (power-is j l))
 
   -- the pivotal places, class by class
@@ -132,7 +132,7 @@ module _ {M : Type 0} (o : RingOps M) (F : IsField o) (m d : ℕ) (r : ℕ → �
           let x = firsts j l in
           let small = x .within in
           C.sum-threshold (suc d) (x .power) (λ k. Pivotal o n d r (n * k plus class j)) (λ k. pivotal-decides (n * k plus class j)) (omega arith) (x .earlier)
-          (λ k a b p. p (Classes.nonpivotal-above o F n positive d r v (class j) (x .power) k (E.skip-lt (cl .free) m j l) a (x .within) (x .non-pivotal)))
+          (λ k a b p. p (Classes.nonpivotal-above o F n positive d r v (class j) (x .power) k (Rows.skip-lt (cl .free) m j l) a (x .within) (x .non-pivotal)))
           ∙ sym (power-is j l)
 
   basic-count : basics .count ≡ m
@@ -160,7 +160,7 @@ module _ {M : Type 0} (o : RingOps M) (F : IsField o) (m d : ℕ) (r : ℕ → �
   basic-powers =
       subst (λ (t : ℕ). sum-below t (λ j. basics .place j / n) ≡ sum-below places (λ q. keep (basic-decides q) (q / n))) basic-count (basics .sums (λ q. q / n))
       ∙ basic-sum (λ q. q / n)
-      ∙ C.sum-ext m (λ j. (n * power j plus class j) / n) power (λ j l. Places.place-div n (power j) (class j) (E.skip-lt (cl .free) m j l))
+      ∙ C.sum-ext m (λ j. (n * power j plus class j) / n) power (λ j l. Places.place-div n (power j) (class j) (Rows.skip-lt (cl .free) m j l))
 
   abbrev pivot-list : ℕ → ℕ → M
   pivot-list t = list (pivots .place t)
@@ -171,7 +171,9 @@ module _ {M : Type 0} (o : RingOps M) (F : IsField o) (m d : ℕ) (r : ℕ → �
       off : (t : ℕ) → t < pivots .count → Spanned o All t width pivot-list (pivot-list t) → ⊥
       off t l s = pivots .holds t l (Spans.spanned-trans o L All members (pivots .place t) t width list pivot-list (pivot-list t) (λ j a. E.spanned-self o L All members (pivots .place t) width list (pivots .place j) (pivots .rising j t a l)) s)
 
-      go : (T : ℕ) → T ≤ pivots .count → ((k : ℕ) → k < width → total o T (λ j. o .product (x j) (pivot-list j k)) ≡ o .zero) → (j : ℕ) → j < T → x j ≡ o .zero
+      go : (T : ℕ) → T ≤ pivots .count
+          → ((k : ℕ) → k < width → total o T (λ j. o .product (x j) (pivot-list j k)) ≡ o .zero) → (j : ℕ) → j < T
+          → x j ≡ o .zero
       go T h z = Pivots.pivotal-unique o F width pivot-list T x (λ t l s. absurd (off t (omega arith) s)) z
 
   -- the unit lists s^j
@@ -207,7 +209,8 @@ module _ {M : Type 0} (o : RingOps M) (F : IsField o) (m d : ℕ) (r : ℕ → �
       (λ k l. Sums.total-ext o L places (λ q. o .product (o .one) (o .product (x .factor q) (list q k))) (λ q. o .product (x .factor q) (list q k)) (λ q a. Sums.one-product o L (o .product (x .factor q) (list q k))) ∙ sym (x .is k l))
       (Spans.spanned-total o L All members (pivots .count) width places pivot-list (λ q. o .one) (λ q k. o .product (x .factor q) (list q k)) (λ q a. tt) (λ q a. term x q a (pivotal-decides q)))
     where
-      term : (x : PivotalSpan o width list places y) (q : ℕ) → q < places → Dec (Pivotal o n d r q) → Spanned o All (pivots .count) width pivot-list (λ k. o .product (x .factor q) (list q k))
+      term : (x : PivotalSpan o width list places y) (q : ℕ) → q < places → Dec (Pivotal o n d r q)
+          → Spanned o All (pivots .count) width pivot-list (λ k. o .product (x .factor q) (list q k))
       term x q a (yes p) =
           let j = pivots .every q a p in
           Spans.spanned-scale o L All members (pivots .count) width pivot-list (x .factor q) (list q) tt

@@ -3,11 +3,11 @@
 use mathlib.Core.Path.{_≡_, refl, sym, ap, ap₂, _∙_, fun-ext}
 use mathlib.Core.Logic.{_⊎_, inl, inr}
 use Prim.Native.Nat.{ℕ, zero, suc, _≤_, _<_, zero-le, suc-le-suc, max, _+_ as _plus_}
-use native.Mathlib.Nat.{le-trans, zero-add, le-max-left, le-max-right, eq-or-lt-of-le}
-use native.Mathlib.Decide.{decLe, decLt}
+use native.Mathlib.Nat.{le-trans, le-max-left, le-max-right, eq-or-lt-of-le}
+use native.Mathlib.Decide.{decLe}
 use native.Mathlib.Omega.{arith}
 use Rattle.algebra.specs.Rings.{RingOps, RingLaws}
-use Rattle.algebra.specs.Series.{total, coefficient, constant, series, shift, scale, Below, Degree, Polynomial}
+use Rattle.algebra.specs.Series.{total, constant, series, shift, scale, Below, Polynomial}
 use Rattle.algebra.proofs.Sums as Sums
 use Rattle.algebra.proofs.Series as S
 
@@ -106,6 +106,7 @@ module _ {M : Type 0} (o : RingOps M) (L : RingLaws o) where
       let N = max (first .0) (rest .0) in
       (N, go first rest)
     where
-      go : (first : Polynomial o (f 0)) (rest : (N : ℕ) × ((i : ℕ) → i < n → Below o N (f (suc i)))) → (i : ℕ) → i < suc n → Below o (max (first .0) (rest .0)) (f i)
+      go : (first : Polynomial o (f 0)) (rest : (N : ℕ) × ((i : ℕ) → i < n → Below o N (f (suc i)))) → (i : ℕ)
+          → i < suc n → Below o (max (first .0) (rest .0)) (f i)
       go first rest zero h = below-mono (first .0) (max (first .0) (rest .0)) (f 0) (le-max-left (first .0) (rest .0)) (first .1)
       go first rest (suc i) h = below-mono (rest .0) (max (first .0) (rest .0)) (f (suc i)) (le-max-right (first .0) (rest .0)) (rest .1 i (omega arith))

@@ -1,13 +1,13 @@
 -- The classes of places, by component. Main results: classes (exactly one class has no non-pivotal place, and no syzygy has its leading place
 -- in it), basic-of-first and first-of-basic (the basic places are the first non-pivotal ones of the other classes).
-use mathlib.Core.Path.{_≡_, refl, sym, ap, ap₂, _∙_, subst}
+use mathlib.Core.Path.{_≡_, refl, sym, ap, _∙_, subst}
 use mathlib.Core.Logic.{_⊎_, inl, inr}
-use Prim.Native.Nat.{ℕ, zero, suc, _≤_, _<_, zero-le, suc-le-suc, _*_, _/_, _%_, _-_, _+_ as _plus_}
-use native.Mathlib.Nat.{le-of-suc-le-suc, not-suc-le-zero, le-refl, mod-lt, div-add-mod, mul-suc, mul-le-mul-left, mul-add}
-use native.Mathlib.Decide.{decLe, decLt, ℕ-discrete}
+use Prim.Native.Nat.{ℕ, zero, suc, _≤_, _<_, _*_, _/_, _%_, _-_, _+_ as _plus_}
+use native.Mathlib.Nat.{div-add-mod, mul-suc, mul-le-mul-left, mul-add}
+use native.Mathlib.Decide.{decLt, ℕ-discrete}
 use native.Mathlib.Omega.{arith}
 use Rattle.algebra.specs.Rings.{RingOps, RingLaws, IsField}
-use Rattle.algebra.specs.Series.{constant, series, shift, dot}
+use Rattle.algebra.specs.Series.{constant, series, shift}
 use Rattle.algebra.specs.Divisors.{VectorDegree}
 use Rattle.algebra.specs.Places.{place-list, NonPivotal, Basic}
 use Rattle.algebra.proofs.Sums as Sums
@@ -15,7 +15,6 @@ use Rattle.algebra.proofs.Series as S
 use Rattle.algebra.proofs.Spans as Spans
 use Rattle.algebra.proofs.Naturals as N
 use Rattle.algebra.proofs.Places as Places
-use Rattle.algebra.proofs.Places.{at, BelowPlace}
 use Rattle.algebra.proofs.Reduction as Reduction
 use Rattle.algebra.proofs.Syzygies as Syzygies
 use Rattle.algebra.proofs.Syzygies.{SyzygyAt}
@@ -63,7 +62,8 @@ module _ {M : Type 0} (o : RingOps M) (F : IsField o) (n : ℕ) (positive : zero
   search-class : (i : ℕ) → FirstNonPivotal o n d r i ⊎ ((k : ℕ) → k < suc d → NonPivotal o n d r (n * k plus i) → ⊥)
   search-class i = go (N.first-below (suc d) (λ k. NonPivotal o n d r (n * k plus i)) (λ k. nonpivotal-decides (n * k plus i)))
     where
-      go : ((k : ℕ) → k < suc d → NonPivotal o n d r (n * k plus i) → ⊥) ⊎ ((k : ℕ) × (k < suc d) × NonPivotal o n d r (n * k plus i) × ((l : ℕ) → l < k → NonPivotal o n d r (n * l plus i) → ⊥)) → FirstNonPivotal o n d r i ⊎ ((k : ℕ) → k < suc d → NonPivotal o n d r (n * k plus i) → ⊥)
+      go : ((k : ℕ) → k < suc d → NonPivotal o n d r (n * k plus i) → ⊥) ⊎ ((k : ℕ) × (k < suc d) × NonPivotal o n d r (n * k plus i) × ((l : ℕ) → l < k → NonPivotal o n d r (n * l plus i) → ⊥))
+          → FirstNonPivotal o n d r i ⊎ ((k : ℕ) → k < suc d → NonPivotal o n d r (n * k plus i) → ⊥)
       go (inl none) = inr none
       go (inr (k, l, s, e)) = inl (record { power = k; within = l; non-pivotal = s; earlier = e })
 
@@ -73,17 +73,21 @@ module _ {M : Type 0} (o : RingOps M) (F : IsField o) (n : ℕ) (positive : zero
   pub classes : Classes o n d r
   classes = go (N.all-or-not n (FirstNonPivotal o n d r) (λ i. (k : ℕ) → k < suc d → NonPivotal o n d r (n * k plus i) → ⊥) (λ i a. search-class i))
     where
-      go : ((i : ℕ) → i < n → FirstNonPivotal o n d r i) ⊎ ((i : ℕ) × (i < n) × ((k : ℕ) → k < suc d → NonPivotal o n d r (n * k plus i) → ⊥)) → Classes o n d r
+      go : ((i : ℕ) → i < n → FirstNonPivotal o n d r i) ⊎ ((i : ℕ) × (i < n) × ((k : ℕ) → k < suc d → NonPivotal o n d r (n * k plus i) → ⊥))
+          → Classes o n d r
       go (inl all) = absurd (Syzygies.not-every-class o F n positive d r (v .bounded) v (λ i a. first-syzygy i a (all i a)))
       go (inr (free, within, none)) = record { free = free; free-within = within; free-none = free-none; first = first }
         where
-          not-here : (i : ℕ) → ((k : ℕ) → k < suc d → NonPivotal o n d r (n * k plus i) → ⊥) → (q : ℕ) → q < n * suc d → SyzygyAt o n r q → q % n ≡ i → ⊥
+          not-here : (i : ℕ) → ((k : ℕ) → k < suc d → NonPivotal o n d r (n * k plus i) → ⊥) → (q : ℕ) → q < n * suc d
+              → SyzygyAt o n r q → q % n ≡ i → ⊥
           not-here i x q l s e = x (q / n) (power-within q l) (subst (λ t. NonPivotal o n d r (n * (q / n) plus t)) e (nonpivotal-place q (Syzygies.nonpivotal-of-syzygy o F n positive d r (v .bounded) q s)))
 
           first : (i : ℕ) → i < n → (i ≡ free → ⊥) → FirstNonPivotal o n d r i
           first i a ne = pick (search-class i) (Syzygies.one-of-two-classes o F n positive d r (v .bounded) i free a within ne)
             where
-              pick : FirstNonPivotal o n d r i ⊎ ((k : ℕ) → k < suc d → NonPivotal o n d r (n * k plus i) → ⊥) → (q : ℕ) × (q < n * suc d) × SyzygyAt o n r q × ((q % n ≡ i) ⊎ (q % n ≡ free)) → FirstNonPivotal o n d r i
+              pick : FirstNonPivotal o n d r i ⊎ ((k : ℕ) → k < suc d → NonPivotal o n d r (n * k plus i) → ⊥)
+                  → (q : ℕ) × (q < n * suc d) × SyzygyAt o n r q × ((q % n ≡ i) ⊎ (q % n ≡ free))
+                  → FirstNonPivotal o n d r i
               pick (inl f) s = f
               pick (inr x) (q, l, s, inl e) = absurd (not-here i x q l s e)
               pick (inr x) (q, l, s, inr e) = absurd (not-here free none q l s e)

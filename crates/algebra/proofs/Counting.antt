@@ -1,16 +1,11 @@
 -- Sums of numbers, and the places below a bound that have a decidable property, in rising order. Main results: enumerate, sum-grid (a sum
 -- over places is a sum over components and powers), sum-threshold and sum-single.
-use mathlib.Core.Path.{_≡_, refl, sym, ap, ap₂, _∙_, subst}
-use mathlib.Core.Logic.{_⊎_, inl, inr}
+use mathlib.Core.Path.{_≡_, refl, sym, ap, ap₂, _∙_}
 use Prim.Native.Nat.{ℕ, zero, suc, _≤_, _<_, _+_, _*_, zero-le, suc-le-suc}
 use native.Mathlib.Nat.{le-of-suc-le-suc, not-suc-le-zero, add-zero, zero-add, suc-add, add-assoc, add-comm, mul-zero, mul-suc, zero-mul, suc-mul}
 use native.Mathlib.Omega.{arith}
-use Rattle.algebra.proofs.Exchange.{skip}
-
--- f 0 + .. + f (n - 1)
-abbrev pub sum-below : ℕ → (ℕ → ℕ) → ℕ
-sum-below zero f = 0
-sum-below (suc n) f = f 0 + sum-below n (λ k. f (suc k))
+use Rattle.algebra.specs.Series.{sum-below}
+use Rattle.algebra.proofs.Rows.{skip}
 
 -- x where a property holds, and 0 elsewhere
 abbrev pub keep : {A : Type 0} → Dec A → ℕ → ℕ
@@ -68,7 +63,8 @@ sum-skip zero (suc p) f h = absurd (not-suc-le-zero (le-of-suc-le-suc h))
 sum-skip (suc n) (suc p) f h = let e = sum-skip n p (λ k. f (suc k)) (le-of-suc-le-suc h) in omega arith
 
 -- a property that holds just below t is counted t times
-pub sum-threshold : (K t : ℕ) (Q : ℕ → Type 0) (dec : (k : ℕ) → Dec (Q k)) → t ≤ K → ((k : ℕ) → k < t → Q k) → ((k : ℕ) → t ≤ k → k < K → Q k → ⊥) → sum-below K (λ k. keep (dec k) 1) ≡ t
+pub sum-threshold : (K t : ℕ) (Q : ℕ → Type 0) (dec : (k : ℕ) → Dec (Q k)) → t ≤ K → ((k : ℕ) → k < t → Q k)
+    → ((k : ℕ) → t ≤ k → k < K → Q k → ⊥) → sum-below K (λ k. keep (dec k) 1) ≡ t
 sum-threshold zero zero Q dec h a b = refl
 sum-threshold zero (suc t) Q dec h a b = absurd (not-suc-le-zero h)
 sum-threshold (suc K) zero Q dec h a b = ap₂ _+_ (keep-no (dec 0) 1 (b 0 zero-le (suc-le-suc zero-le))) (sum-threshold K zero (λ k. Q (suc k)) (λ k. dec (suc k)) zero-le (λ k l. absurd (not-suc-le-zero l)) (λ k l c. b (suc k) zero-le (suc-le-suc c)))
@@ -82,6 +78,25 @@ pub sum-single : (K t : ℕ) (f : ℕ → ℕ) → t < K → ((k : ℕ) → k < 
 sum-single zero t f h e = absurd (not-suc-le-zero h)
 sum-single (suc K) zero f h e = ap (λ s. f 0 + s) (sum-none K (λ k. f (suc k)) (λ k l. e (suc k) (suc-le-suc l) (λ z. omega arith))) ∙ add-zero (f 0)
 sum-single (suc K) (suc t) f h e = ap₂ _+_ (e 0 (suc-le-suc zero-le) (λ z. omega arith)) (sum-single K t (λ k. f (suc k)) (le-of-suc-le-suc h) (λ k l n. e (suc k) (suc-le-suc l) (λ z. n (omega arith)))) ∙ zero-add (f (suc t))
+
+pub sum-le : (n : ℕ) (f g : ℕ → ℕ) → ((k : ℕ) → k < n → f k ≤ g k) → sum-below n f ≤ sum-below n g
+sum-le zero f g h = zero-le
+sum-le (suc n) f g h = let a = h 0 (suc-le-suc zero-le) in let b = sum-le n (λ k. f (suc k)) (λ k. g (suc k)) (λ k l. h (suc k) (suc-le-suc l)) in omega arith
+
+-- a term is at most the sum
+pub sum-member : (n : ℕ) (f : ℕ → ℕ) (k : ℕ) → k < n → f k ≤ sum-below n f
+sum-member zero f k l = absurd (not-suc-le-zero l)
+sum-member (suc n) f zero l = omega arith
+sum-member (suc n) f (suc k) l = let h = sum-member n (λ j. f (suc j)) k (le-of-suc-le-suc l) in omega arith
+
+-- terms no greater, with the same sum, are the same
+pub sum-le-same : (n : ℕ) (f g : ℕ → ℕ) → ((k : ℕ) → k < n → f k ≤ g k) → sum-below n f ≡ sum-below n g → (k : ℕ) → k < n → f k ≡ g k
+sum-le-same zero f g h e k l = absurd (not-suc-le-zero l)
+sum-le-same (suc n) f g h e zero l = let a = h 0 (suc-le-suc zero-le) in let b = sum-le n (λ k. f (suc k)) (λ k. g (suc k)) (λ k c. h (suc k) (suc-le-suc c)) in omega arith
+sum-le-same (suc n) f g h e (suc k) l =
+    let a = h 0 (suc-le-suc zero-le) in
+    let b = sum-le n (λ j. f (suc j)) (λ j. g (suc j)) (λ j c. h (suc j) (suc-le-suc c)) in
+    sum-le-same n (λ j. f (suc j)) (λ j. g (suc j)) (λ j c. h (suc j) (suc-le-suc c)) (omega arith) k (le-of-suc-le-suc l)
 
 -- the numbers below N with a property, in rising order
 pub record Enumerated (N : ℕ) (Q : ℕ → Type 0) (dec : (q : ℕ) → Dec (Q q)) : Type 0 where

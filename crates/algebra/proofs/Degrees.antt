@@ -1,16 +1,16 @@
 -- Exact degrees of polynomials over a field. Main results: zero-or-degree (zero and degree are decidable for a bounded series),
 -- degree-unique, degree-product, zero-of-product and product-cancel (no zero divisors), below-factor (the bound of a factor).
-use mathlib.Core.Path.{_≡_, refl, sym, ap, ap₂, _∙_, fun-ext}
+use mathlib.Core.Path.{_≡_, refl, sym, ap, _∙_}
 use mathlib.Core.Logic.{_⊎_, inl, inr}
 use mathlib.Core.List.{[], _∷_}
-use Prim.Native.Nat.{ℕ, zero, suc, _≤_, _<_, zero-le, suc-le-suc, _+_ as _plus_}
-use native.Mathlib.Nat.{le-antisymm, le-refl}
-use native.Mathlib.Decide.{decLe, decLt, map-dec}
+use Prim.Native.Nat.{ℕ, zero, suc, _≤_, _<_, _+_ as _plus_}
+use native.Mathlib.Nat.{le-refl}
+use native.Mathlib.Decide.{decLt}
 use native.Mathlib.Omega.{arith}
 use Rattle.algebra.specs.Rings.{RingOps, RingLaws, IsField}
-use Rattle.algebra.specs.Series.{total, constant, series, shift, scale, Below, Degree, Polynomial}
+use Rattle.algebra.specs.Series.{series, scale, Below, Degree, Polynomial}
 use Rattle.algebra.proofs.Sums as Sums
-use Rattle.algebra.proofs.Solver.{solve, var, 𝟎, 𝟏, _⊞_, _⊠_, neg}
+use Rattle.algebra.proofs.Solver.{solve, var, _⊞_, _⊠_, neg}
 use Rattle.algebra.proofs.Series as S
 use Rattle.algebra.proofs.Fields as Fields
 use Rattle.algebra.proofs.Bounds as B

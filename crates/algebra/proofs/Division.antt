@@ -1,19 +1,16 @@
 -- Division of polynomials over a field. Main results: divide (division with remainder), division-unique, divides-trans, divides-dot (a divisor of a row
 -- divides its combinations).
-use mathlib.Core.Path.{_≡_, refl, sym, ap, ap₂, _∙_, fun-ext, subst}
-use mathlib.Core.Logic.{_⊎_, inl, inr}
+use mathlib.Core.Path.{_≡_, refl, sym, ap, ap₂, _∙_, subst}
 use mathlib.Core.List.{[], _∷_}
 use Prim.Native.Nat.{ℕ, zero, suc, _≤_, _<_, _-_, zero-le, suc-le-suc, _+_ as _plus_}
-use native.Mathlib.Nat.{le-antisymm, le-refl}
-use native.Mathlib.Decide.{decLe, decLt, map-dec}
+use native.Mathlib.Decide.{decLe}
 use native.Mathlib.Omega.{arith}
 use Rattle.algebra.specs.Rings.{RingOps, RingLaws, IsField}
-use Rattle.algebra.specs.Series.{total, dot, constant, series, shift, scale, Below, Degree, Polynomial}
+use Rattle.algebra.specs.Series.{dot, constant, series, shift, Below, Degree, Polynomial}
 use Rattle.algebra.specs.Divisors.{Division, Divides}
 use Rattle.algebra.proofs.Sums as Sums
-use Rattle.algebra.proofs.Solver.{solve, var, 𝟎, 𝟏, _⊞_, _⊠_, neg}
+use Rattle.algebra.proofs.Solver.{solve, var, 𝟎, _⊞_, _⊠_, neg}
 use Rattle.algebra.proofs.Series as S
-use Rattle.algebra.proofs.Fields as Fields
 use Rattle.algebra.proofs.Bounds as B
 use Rattle.algebra.proofs.Degrees as D
 
@@ -96,7 +93,8 @@ module _ {M : Type 0} (o : RingOps M) (F : IsField o) where
   }
 
   -- a divisor of a row divides its combinations
-  pub divides-dot : (n : ℕ) (f : ℕ → M) (a h : ℕ → ℕ → M) → ((i : ℕ) → i < n → Divides o f (a i)) → ((i : ℕ) → i < n → Polynomial o (h i)) → Divides o f (dot (series o) n a h)
+  pub divides-dot : (n : ℕ) (f : ℕ → M) (a h : ℕ → ℕ → M) → ((i : ℕ) → i < n → Divides o f (a i))
+      → ((i : ℕ) → i < n → Polynomial o (h i)) → Divides o f (dot (series o) n a h)
   divides-dot zero f a h d p = divides-zero f
   divides-dot (suc n) f a h d p =
       divides-sum f (a 0 · h 0) (dot (series o) n (λ i. a (suc i)) (λ i. h (suc i)))

@@ -1,86 +1,22 @@
 -- The exchange lemma over an integral domain with decidable zero. Main results: exchange (m equations in more than m unknowns have a solution
 -- that is not all zero), dependent-of-spanned (more vectors than span them are dependent), spanned-of-independent (as many independent
 -- vectors as span them span the same, up to a factor), domain-of-field and domain-of-polynomials.
-use mathlib.Core.Path.{_≡_, refl, sym, ap, ap₂, _∙_, subst}
+use mathlib.Core.Path.{_≡_, refl, sym, ap, ap₂, _∙_}
 use mathlib.Core.Logic.{_⊎_, inl, inr}
 use mathlib.Core.List.{[], _∷_}
-use Prim.Native.Nat.{ℕ, zero, suc, _≤_, _<_, zero-le, suc-le-suc}
+use Prim.Native.Nat.{ℕ, zero, suc, _<_, zero-le, suc-le-suc}
 use native.Mathlib.Nat.{le-of-suc-le-suc, not-suc-le-zero, le-refl}
+use native.Mathlib.Decide.{ℕ-discrete}
 use native.Mathlib.Omega.{arith}
 use Rattle.algebra.specs.Rings.{RingOps, RingLaws, IsField}
 use Rattle.algebra.specs.Series.{total, dot, series, Polynomial}
 use Rattle.algebra.specs.Independence.{All, Domain, NotAllZero, Solution, Spanned, Dependent, Independent}
+use Rattle.algebra.proofs.Rows.{skip, slot, skip-lt, unskip, slot-at, slot-skip, slot-all, choose}
 use Rattle.algebra.proofs.Sums as Sums
-use Rattle.algebra.proofs.Solver.{solve, var, 𝟎, 𝟏, _⊞_, _⊠_, neg}
-use Rattle.algebra.proofs.Series as S
+use Rattle.algebra.proofs.Solver.{solve, var, 𝟎, _⊞_, _⊠_, neg}
 use Rattle.algebra.proofs.Fields as Fields
 use Rattle.algebra.proofs.Bounds as B
 use Rattle.algebra.proofs.Degrees as D
-
--- all numbers but p, in rising order
-abbrev pub skip : ℕ → ℕ → ℕ
-skip zero j = suc j
-skip (suc p) zero = zero
-skip (suc p) (suc j) = suc (skip p j)
-
--- v at p, and y in order at the other places
-abbrev pub slot : {R : Type 0} → ℕ → R → (ℕ → R) → ℕ → R
-slot zero v y zero = v
-slot zero v y (suc k) = y k
-slot (suc p) v y zero = y 0
-slot (suc p) v y (suc k) = slot p v (λ j. y (suc j)) k
-
-pub skip-lt : (p n j : ℕ) → j < n → skip p j < suc n
-skip-lt zero n j h = suc-le-suc h
-skip-lt (suc p) zero j h = absurd (not-suc-le-zero h)
-skip-lt (suc p) (suc n) zero h = suc-le-suc zero-le
-skip-lt (suc p) (suc n) (suc j) h = suc-le-suc (skip-lt p n j (le-of-suc-le-suc h))
-
-pub skip-ne : (p j : ℕ) → skip p j ≡ p → ⊥
-skip-ne zero j e = omega arith
-skip-ne (suc p) zero e = omega arith
-skip-ne (suc p) (suc j) e = skip-ne p j (omega arith)
-
-pub slot-at : {R : Type 0} (p : ℕ) (v : R) (y : ℕ → R) → slot p v y p ≡ v
-slot-at zero v y = refl
-slot-at (suc p) v y = slot-at p v (λ j. y (suc j))
-
-pub slot-skip : {R : Type 0} (p : ℕ) (v : R) (y : ℕ → R) (j : ℕ) → slot p v y (skip p j) ≡ y j
-slot-skip zero v y j = refl
-slot-skip (suc p) v y zero = refl
-slot-skip (suc p) v y (suc j) = slot-skip p v (λ i. y (suc i)) j
-
--- x everywhere but at p
-pub slot-off : {R : Type 0} (p : ℕ) (v x : R) (q : ℕ) → (q ≡ p → ⊥) → slot p v (λ j. x) q ≡ x
-slot-off zero v x zero n = absurd (n refl)
-slot-off zero v x (suc q) n = refl
-slot-off (suc p) v x zero n = refl
-slot-off (suc p) v x (suc q) n = slot-off p v x q (λ e. n (ap suc e))
-
-pub slot-both : {R : Type 0} (P : R → Type 0) (p : ℕ) (v x : R) (q : ℕ) → P v → P x → P (slot p v (λ j. x) q)
-slot-both P zero v x zero a b = a
-slot-both P zero v x (suc q) a b = b
-slot-both P (suc p) v x zero a b = b
-slot-both P (suc p) v x (suc q) a b = slot-both P p v x q a b
-
-pub slot-all : {R : Type 0} (P : R → Type 0) (n p : ℕ) (v : R) (y : ℕ → R) → p < suc n → P v → ((j : ℕ) → j < n → P (y j)) → (k : ℕ) → k < suc n → P (slot p v y k)
-slot-all P n zero v y h a b zero l = a
-slot-all P n zero v y h a b (suc k) l = b k (le-of-suc-le-suc l)
-slot-all P zero (suc p) v y h a b k l = absurd (not-suc-le-zero (le-of-suc-le-suc h))
-slot-all P (suc n) (suc p) v y h a b zero l = b 0 (suc-le-suc zero-le)
-slot-all P (suc n) (suc p) v y h a b (suc k) l = slot-all P n p v (λ j. y (suc j)) (le-of-suc-le-suc h) a (λ j i. b (suc j) (suc-le-suc i)) k (le-of-suc-le-suc l)
-
--- what exists at each place below q is the value of one function
-pub choose : {A : Type 0} (B : ℕ → A → Type 0) (default : A) (q : ℕ) → ((j : ℕ) → j < q → (x : A) × B j x) → (f : ℕ → A) × ((j : ℕ) → j < q → B j (f j))
-choose B default zero h = (λ j. default, λ j l. absurd (not-suc-le-zero l))
-choose {A} B default (suc q) h = go (h 0 (suc-le-suc zero-le)) (choose (λ j. B (suc j)) default q (λ j l. h (suc j) (suc-le-suc l)))
-  where
-    holds : (x : A) (f : ℕ → A) → B 0 x → ((j : ℕ) → j < q → B (suc j) (f j)) → (j : ℕ) → j < suc q → B j (slot 0 x f j)
-    holds x f b c zero l = b
-    holds x f b c (suc j) l = c j (le-of-suc-le-suc l)
-
-    go : (x : A) × B 0 x → (f : ℕ → A) × ((j : ℕ) → j < q → B (suc j) (f j)) → (f : ℕ → A) × ((j : ℕ) → j < suc q → B j (f j))
-    go x f = (slot 0 (x .0) (f .0), holds (x .0) (f .0) (x .1) (f .1))
 
 module _ {R : Type 0} (o : RingOps R) (L : RingLaws o) where
   open RingOps o using (zero as O, one as I, sum as _+_, negative as -_, product as _·_)
@@ -88,16 +24,9 @@ module _ {R : Type 0} (o : RingOps R) (L : RingLaws o) where
   infixl 60 _+_
   infixl 70 _·_
   infix 80 -_
-  -- one term taken out of a sum
-  pub total-skip : (n p : ℕ) (f : ℕ → R) → p < suc n → total o (suc n) f ≡ f p + total o n (λ j. f (skip p j))
-  total-skip n zero f h = refl
-  total-skip zero (suc p) f h = absurd (not-suc-le-zero (le-of-suc-le-suc h))
-  total-skip (suc n) (suc p) f h =
-      ap (λ t. f 0 + t) (total-skip n p (λ k. f (suc k)) (le-of-suc-le-suc h))
-      ∙ Sums.sum-left-comm o L (f 0) (f (suc p)) (total o n (λ j. f (suc (skip p j))))
-
   -- sums of multiples of sums of multiples
-  pub total-compose : (q m : ℕ) (x : ℕ → R) (c : ℕ → ℕ → R) (u : ℕ → R) → total o q (λ j. x j · total o m (λ l. c j l · u l)) ≡ total o m (λ l. dot o q (λ j. c j l) x · u l)
+  pub total-compose : (q m : ℕ) (x : ℕ → R) (c : ℕ → ℕ → R) (u : ℕ → R)
+      → total o q (λ j. x j · total o m (λ l. c j l · u l)) ≡ total o m (λ l. dot o q (λ j. c j l) x · u l)
   total-compose q m x c u =
       Sums.total-ext o L q (λ j. x j · total o m (λ l. c j l · u l)) (λ j. total o m (λ l. c j l · x j · u l))
       (λ j h. sym (Sums.total-scale o L m (x j) (λ l. c j l · u l)) ∙ Sums.total-ext o L m (λ l. x j · (c j l · u l)) (λ l. c j l · x j · u l) (λ l i. solve o L (x j ∷ c j l ∷ u l ∷ []) (var 0 ⊠ (var 1 ⊠ var 2)) (var 1 ⊠ var 0 ⊠ var 2) refl))
@@ -113,7 +42,8 @@ module _ {R : Type 0} (o : RingOps R) (L : RingLaws o) where
         all e r zero h = e
         all e r (suc j) h = r j (le-of-suc-le-suc h)
 
-        go : Dec (x 0 ≡ O) → ((j : ℕ) → j < q → x (suc j) ≡ O) ⊎ NotAllZero o q (λ j. x (suc j)) → ((j : ℕ) → j < suc q → x j ≡ O) ⊎ NotAllZero o (suc q) x
+        go : Dec (x 0 ≡ O) → ((j : ℕ) → j < q → x (suc j) ≡ O) ⊎ NotAllZero o q (λ j. x (suc j))
+            → ((j : ℕ) → j < suc q → x j ≡ O) ⊎ NotAllZero o (suc q) x
         go (no n) r = inr (record { place = 0; within = suc-le-suc zero-le; nonzero = n })
         go (yes e) (inl r) = inl (all e r)
         go (yes e) (inr r) = inr (record { place = suc (r .place); within = suc-le-suc (r .within); nonzero = r .nonzero })
@@ -130,16 +60,18 @@ module _ {R : Type 0} (o : RingOps R) (L : RingLaws o) where
     abbrev completed : (ℕ → ℕ → R) → ℕ → ℕ → (ℕ → R) → ℕ → R
     completed A p q y = slot p (- dot o q (λ j. A 0 (skip p j)) y) (λ j. A 0 p · y j)
 
-    dot-completed : (A : ℕ → ℕ → R) (p q : ℕ) (y row : ℕ → R) → p < suc q → dot o (suc q) row (completed A p q y) ≡ row p · (- dot o q (λ j. A 0 (skip p j)) y) + A 0 p · dot o q (λ j. row (skip p j)) y
+    dot-completed : (A : ℕ → ℕ → R) (p q : ℕ) (y row : ℕ → R) → p < suc q
+        → dot o (suc q) row (completed A p q y) ≡ row p · (- dot o q (λ j. A 0 (skip p j)) y) + A 0 p · dot o q (λ j. row (skip p j)) y
     dot-completed A p q y row h =
-        total-skip q p (λ k. row k · completed A p q y k) h
+        Sums.total-skip o L q p (λ k. row k · completed A p q y k) h
         ∙ ap₂ _+_
         (ap (λ t. row p · t) (slot-at p (- dot o q (λ j. A 0 (skip p j)) y) (λ j. A 0 p · y j)))
         (Sums.total-ext o L q (λ j. row (skip p j) · completed A p q y (skip p j)) (λ j. A 0 p · (row (skip p j) · y j))
         (λ j l. ap (λ t. row (skip p j) · t) (slot-skip p (- dot o q (λ i. A 0 (skip p i)) y) (λ i. A 0 p · y i) j) ∙ Sums.product-left-comm o L (row (skip p j)) (A 0 p) (y j))
         ∙ Sums.total-scale o L q (A 0 p) (λ j. row (skip p j) · y j))
 
-    dot-eliminated : (A : ℕ → ℕ → R) (p q i : ℕ) (y : ℕ → R) → dot o q (eliminated A p i) y ≡ A 0 p · dot o q (λ j. A (suc i) (skip p j)) y + A (suc i) p · (- dot o q (λ j. A 0 (skip p j)) y)
+    dot-eliminated : (A : ℕ → ℕ → R) (p q i : ℕ) (y : ℕ → R)
+        → dot o q (eliminated A p i) y ≡ A 0 p · dot o q (λ j. A (suc i) (skip p j)) y + A (suc i) p · (- dot o q (λ j. A 0 (skip p j)) y)
     dot-eliminated A p q i y =
         Sums.total-ext o L q (λ j. eliminated A p i j · y j) (λ j. A 0 p · (A (suc i) (skip p j) · y j) + (- A (suc i) p) · (A 0 (skip p j) · y j))
         (λ j l. solve o L (A 0 p ∷ A (suc i) (skip p j) ∷ A (suc i) p ∷ A 0 (skip p j) ∷ y j ∷ []) ((var 0 ⊠ var 1 ⊞ neg (var 2 ⊠ var 3)) ⊠ var 4) (var 0 ⊠ (var 1 ⊠ var 4) ⊞ neg (var 2) ⊠ (var 3 ⊠ var 4)) refl)
@@ -147,7 +79,8 @@ module _ {R : Type 0} (o : RingOps R) (L : RingLaws o) where
         ∙ ap₂ _+_ (Sums.total-scale o L q (A 0 p) (λ j. A (suc i) (skip p j) · y j)) (Sums.total-scale o L q (- A (suc i) p) (λ j. A 0 (skip p j) · y j))
         ∙ ap (λ t. A 0 p · dot o q (λ j. A (suc i) (skip p j)) y + t) (solve o L (A (suc i) p ∷ dot o q (λ j. A 0 (skip p j)) y ∷ []) (neg (var 0) ⊠ var 1) (var 0 ⊠ neg (var 1)) refl)
 
-    complete : (m q : ℕ) (A : ℕ → ℕ → R) → ((i j : ℕ) → i < suc m → j < suc q → P (A i j)) → (p : ℕ) → p < suc q → (A 0 p ≡ O → ⊥) → Solution o P m q (eliminated A p) → Solution o P (suc m) (suc q) A
+    complete : (m q : ℕ) (A : ℕ → ℕ → R) → ((i j : ℕ) → i < suc m → j < suc q → P (A i j)) → (p : ℕ) → p < suc q
+        → (A 0 p ≡ O → ⊥) → Solution o P m q (eliminated A p) → Solution o P (suc m) (suc q) A
     complete m q A a p h n s =
         let y = s .unknown in
         record {
@@ -183,7 +116,10 @@ module _ {R : Type 0} (o : RingOps R) (L : RingLaws o) where
     exchange (suc m) zero A h a = absurd (not-suc-le-zero h)
     exchange (suc m) (suc q) A h a = go (all-zero-or-not (suc q) (A 0) (λ j l. a 0 j (suc-le-suc zero-le) l)) (exchange m q) (exchange m (suc q) (λ i. A (suc i)))
       where
-        go : ((j : ℕ) → j < suc q → A 0 j ≡ O) ⊎ NotAllZero o (suc q) (A 0) → ((B : ℕ → ℕ → R) → m < q → ((i j : ℕ) → i < m → j < q → P (B i j)) → Solution o P m q B) → (m < suc q → ((i j : ℕ) → i < m → j < suc q → P (A (suc i) j)) → Solution o P m (suc q) (λ i. A (suc i))) → Solution o P (suc m) (suc q) A
+        go : ((j : ℕ) → j < suc q → A 0 j ≡ O) ⊎ NotAllZero o (suc q) (A 0)
+            → ((B : ℕ → ℕ → R) → m < q → ((i j : ℕ) → i < m → j < q → P (B i j)) → Solution o P m q B)
+            → (m < suc q → ((i j : ℕ) → i < m → j < suc q → P (A (suc i) j)) → Solution o P m (suc q) (λ i. A (suc i)))
+            → Solution o P (suc m) (suc q) A
         go (inl z) rest same = drop-row m (suc q) A z (same (omega arith) (λ i j l k. a (suc i) j (suc-le-suc l) k))
         go (inr r) rest same =
             let p = r .place in
@@ -192,8 +128,37 @@ module _ {R : Type 0} (o : RingOps R) (L : RingLaws o) where
             (D .product-in (A 0 p) (A (suc i) (skip p j)) (a 0 p (suc-le-suc zero-le) (r .within)) (a (suc i) (skip p j) (suc-le-suc l) (skip-lt p q j k)))
             (D .negative-in (A (suc i) p · A 0 (skip p j)) (D .product-in (A (suc i) p) (A 0 (skip p j)) (a (suc i) p (suc-le-suc l) (r .within)) (a 0 (skip p j) (suc-le-suc zero-le) (skip-lt p q j k))))))
 
+    -- a square matrix that sends y, not zero at p, to zero has rows that are dependent
+    pub left-kernel : (q p : ℕ) (X : ℕ → ℕ → R) (y : ℕ → R) → p < suc q
+        → ((l j : ℕ) → l < suc q → j < suc q → P (X l j)) → P (y p) → (y p ≡ O → ⊥)
+        → ((l : ℕ) → l < suc q → total o (suc q) (λ j. X l j · y j) ≡ O) → Solution o P (suc q) (suc q) (λ j l. X l j)
+    left-kernel q p X y h inside py ne zeros = done (exchange q (suc q) (λ i l. X l (skip p i)) (le-refl (suc q)) (λ i l a b. inside l (skip p i) b (skip-lt p q i a)))
+      where
+        done : Solution o P q (suc q) (λ i l. X l (skip p i)) → Solution o P (suc q) (suc q) (λ j l. X l j)
+        done s = record { unknown = s .unknown; inside = s .inside; not-all-zero = s .not-all-zero; solves = λ j b. at j b (ℕ-discrete j p) }
+          where
+            C : ℕ → R
+            C = s .unknown
+
+            all : total o (suc q) (λ j. dot o (suc q) (λ l. X l j) C · y j) ≡ O
+            all =
+                sym (total-compose (suc q) (suc q) C X y)
+                ∙ Sums.total-zero o L (suc q) (λ l. C l · total o (suc q) (λ j. X l j · y j)) (λ l b. ap (λ t. C l · t) (zeros l b) ∙ Sums.product-zero o L (C l))
+
+            at-p : dot o (suc q) (λ l. X l p) C · y p ≡ O
+            at-p =
+                sym (L .sum-zero (dot o (suc q) (λ l. X l p) C · y p))
+                ∙ ap (λ t. dot o (suc q) (λ l. X l p) C · y p + t) (sym (Sums.total-zero o L q (λ i. dot o (suc q) (λ l. X l (skip p i)) C · y (skip p i)) (λ i b. ap (λ t. t · y (skip p i)) (s .solves i b) ∙ Sums.zero-product o L (y (skip p i)))))
+                ∙ sym (Sums.total-skip o L q p (λ j. dot o (suc q) (λ l. X l j) C · y j) h)
+                ∙ all
+
+            at : (j : ℕ) → j < suc q → Dec (j ≡ p) → dot o (suc q) (λ l. X l j) C ≡ O
+            at j b (yes e) = ap (λ t. dot o (suc q) (λ l. X l t) C) e ∙ D .zero-of-product (y p) (dot o (suc q) (λ l. X l p) C) py (total-in (suc q) (λ l. X l p · C l) (λ l a. D .product-in (X l p) (C l) (inside l p a h) (s .inside l a))) ne (L .product-comm (y p) (dot o (suc q) (λ l. X l p) C) ∙ at-p)
+            at j b (no n) = let i = unskip q p j h b n in ap (λ t. dot o (suc q) (λ l. X l t) C) (sym (i .2)) ∙ s .solves (i .0) (i .1)
+
     -- the factors by which each of q vectors is spanned, as one matrix
-    factors : (t q w : ℕ) (u v : ℕ → ℕ → R) → ((j : ℕ) → j < q → Spanned o P t w u (v j)) → (c : ℕ → ℕ → R) × ((j : ℕ) → j < q → record { inside : (l : ℕ) → l < t → P (c j l); is : (k : ℕ) → k < w → v j k ≡ total o t (λ l. c j l · u l k) })
+    factors : (t q w : ℕ) (u v : ℕ → ℕ → R) → ((j : ℕ) → j < q → Spanned o P t w u (v j))
+        → (c : ℕ → ℕ → R) × ((j : ℕ) → j < q → record { inside : (l : ℕ) → l < t → P (c j l); is : (k : ℕ) → k < w → v j k ≡ total o t (λ l. c j l · u l k) })
     factors t q w u v s = choose {A = ℕ → R} (λ j c. record { inside : (l : ℕ) → l < t → P (c l); is : (k : ℕ) → k < w → v j k ≡ total o t (λ l. c l · u l k) }) (λ l. O) q (λ j h. (s j h .factor, record { inside = s j h .inside; is = s j h .is }))
 
     -- more vectors than span them are dependent
@@ -221,7 +186,7 @@ module _ {R : Type 0} (o : RingOps R) (L : RingLaws o) where
       factor = slot p I (λ j. O);
       inside = slot-all P t p I (λ j. O) h (D .one-in) (λ j l. D .zero-in);
       is = λ k l. sym (
-          total-skip t p (λ j. slot p I (λ i. O) j · u j k) h
+          Sums.total-skip o L t p (λ j. slot p I (λ i. O) j · u j k) h
           ∙ ap₂ _+_
           (ap (λ z. z · u p k) (slot-at p I (λ i. O)) ∙ Sums.one-product o L (u p k))
           (Sums.total-zero o L t (λ j. slot p I (λ i. O) (skip p j) · u (skip p j) k) (λ j b. ap (λ z. z · u (skip p j) k) (slot-skip p I (λ i. O) j) ∙ Sums.zero-product o L (u (skip p j) k)))
@@ -229,7 +194,9 @@ module _ {R : Type 0} (o : RingOps R) (L : RingLaws o) where
     }
 
     -- of as many independent vectors as span them, a multiple of each spanning vector is a sum of multiples
-    pub spanned-of-independent : (t w : ℕ) (u v : ℕ → ℕ → R) → Independent o P t w v → ((j : ℕ) → j < t → Spanned o P t w u (v j)) → (l : ℕ) → l < t → (c : R) × P c × (c ≡ O → ⊥) × Spanned o P t w v (λ k. c · u l k)
+    pub spanned-of-independent : (t w : ℕ) (u v : ℕ → ℕ → R) → Independent o P t w v
+        → ((j : ℕ) → j < t → Spanned o P t w u (v j)) → (l : ℕ) → l < t
+        → (c : R) × P c × (c ≡ O → ⊥) × Spanned o P t w v (λ k. c · u l k)
     spanned-of-independent t w u v i s l h = go (dependent-of-spanned t (suc t) w u (slot 0 (u l) v) (le-refl (suc t)) all)
       where
         all : (j : ℕ) → j < suc t → Spanned o P t w u (slot 0 (u l) v j)
@@ -293,7 +260,9 @@ domain-of-polynomials o F =
     }
 
 -- over a field: as many independent vectors as span them span the same
-pub spanned-of-independent-members : {M : Type 0} (o : RingOps M) (F : IsField o) (t w : ℕ) (u v : ℕ → ℕ → M) → Independent o All t w v → ((j : ℕ) → j < t → Spanned o All t w u (v j)) → (l : ℕ) → l < t → Spanned o All t w v (u l)
+pub spanned-of-independent-members : {M : Type 0} (o : RingOps M) (F : IsField o) (t w : ℕ) (u v : ℕ → ℕ → M)
+    → Independent o All t w v → ((j : ℕ) → j < t → Spanned o All t w u (v j)) → (l : ℕ) → l < t
+    → Spanned o All t w v (u l)
 spanned-of-independent-members {M} o F t w u v i s l h = go (spanned-of-independent o L All (domain-of-field o F) t w u v i s l h)
   where
     L : RingLaws o

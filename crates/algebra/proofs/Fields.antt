@@ -1,10 +1,9 @@
--- Members of a field. Main results: numbering-decides (numbered members can be told apart), zero-of-product and nonzero-product (no
+-- Members of a field. Main results: numbering-decides (numbered members can be told apart), field-of, zero-of-product and nonzero-product (no
 -- zero divisors).
-use mathlib.Core.Path.{_≡_, refl, sym, ap, ap₂, _∙_}
-use mathlib.Core.List.{[], _∷_}
+use mathlib.Core.Path.{_≡_, sym, ap, _∙_}
 use Prim.Native.Nat.{ℕ}
 use native.Mathlib.Decide.{ℕ-discrete, map-dec}
-use Rattle.algebra.specs.Rings.{RingOps, RingLaws, Numbering, IsField}
+use Rattle.algebra.specs.Rings.{RingOps, RingLaws, FieldLaws, Invertible, Numbering, IsField}
 use Rattle.algebra.proofs.Sums as Sums
 
 -- members with a numbering can be told apart
@@ -38,3 +37,7 @@ module _ {R : Type 0} (o : RingOps R) (F : IsField o) where
 
   pub nonzero-negative : (x : R) → (x ≡ O → ⊥) → - x ≡ O → ⊥
   nonzero-negative x n e = n (sym (Sums.negative-negative o L x) ∙ ap -_ e ∙ Sums.negative-zero o L)
+
+-- a field by its laws, a numbering of its members and its inverses
+pub field-of : {R : Type 0} {o : RingOps R} {order : ℕ} {number : R → ℕ} → FieldLaws o → Numbering o order number → Invertible o → IsField o
+field-of laws numbering inverts = record { laws = laws; decides = numbering-decides numbering; inverts = inverts }

@@ -1,13 +1,13 @@
 -- The monic greatest common divisor of a row of polynomials over a field. Main results: gcd-exists (with the vector whose product with the
 -- row it is), gcd-unique, gcd-combination.
-use mathlib.Core.Path.{_≡_, refl, sym, ap, ap₂, _∙_, fun-ext, subst}
+use mathlib.Core.Path.{_≡_, refl, sym, ap, _∙_, fun-ext, subst}
 use mathlib.Core.Logic.{_⊎_, inl, inr}
 use mathlib.Core.List.{[], _∷_}
-use Prim.Native.Nat.{ℕ, zero, suc, _≤_, _<_, zero-le, suc-le-suc, _+_ as _plus_}
-use native.Mathlib.Nat.{zero-add, add-zero}
+use Prim.Native.Nat.{ℕ, zero, suc, _<_, zero-le, suc-le-suc, _+_ as _plus_}
+use native.Mathlib.Nat.{add-zero}
 use native.Mathlib.Omega.{arith}
 use Rattle.algebra.specs.Rings.{RingOps, RingLaws, IsField}
-use Rattle.algebra.specs.Series.{total, dot, constant, series, scale, Below, Degree, Polynomial}
+use Rattle.algebra.specs.Series.{dot, constant, series, Below, Degree, Polynomial}
 use Rattle.algebra.specs.Divisors.{Division, Divides, Combination, Monic, MonicGcd, GcdOfRow, AllZero}
 use Rattle.algebra.proofs.Sums as Sums
 use Rattle.algebra.proofs.Solver.{solve, var, 𝟎, 𝟏, _⊞_, _⊠_, neg}
@@ -94,10 +94,12 @@ module _ {M : Type 0} (o : RingOps M) (F : IsField o) where
           euclid-step f g e r (rest (r .remainder) (suc N, b) (B.below-mono o L e N (r .remainder) (omega arith) (r .small)))
 
   -- a combination of polynomials is a polynomial
-  pub combination-polynomial : (n : ℕ) (a h : ℕ → ℕ → M) → ((i : ℕ) → i < n → Polynomial o (a i)) → ((i : ℕ) → i < n → Polynomial o (h i)) → Polynomial o (dot (series o) n a h)
+  pub combination-polynomial : (n : ℕ) (a h : ℕ → ℕ → M) → ((i : ℕ) → i < n → Polynomial o (a i))
+      → ((i : ℕ) → i < n → Polynomial o (h i)) → Polynomial o (dot (series o) n a h)
   combination-polynomial n a h p q = B.polynomial-total o L n (λ i. a i · h i) (λ i l. B.polynomial-product o L (a i) (h i) (p i l) (q i l))
 
-  row-step-is : (f g u v d c : ℕ → M) (n : ℕ) (a h : ℕ → ℕ → M) → dot (series o) n a h ≡ c → f · u + c · v ≡ d → f · u + dot (series o) n a (λ i. h i · v) ≡ d
+  row-step-is : (f g u v d c : ℕ → M) (n : ℕ) (a h : ℕ → ℕ → M) → dot (series o) n a h ≡ c → f · u + c · v ≡ d
+      → f · u + dot (series o) n a (λ i. h i · v) ≡ d
   row-step-is f g u v d c n a h e p =
       ap (λ t. f · u + t)
       (Sums.total-ext (series o) SL n (λ i. a i · (h i · v)) (λ i. a i · h i · v) (λ i l. sym (SL .product-assoc (a i) (h i) v))

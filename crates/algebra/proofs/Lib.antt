@@ -1,3 +1,4 @@
+pub mod Rows
 pub mod Sums
 pub mod Solver
 pub mod Series
@@ -19,4 +20,12 @@ pub mod Counting
 pub mod BasicPlaces
 pub mod LeadingVectors
 pub mod Frames
+pub mod Optimal
+pub mod OptimalFrames
+pub mod TestPassed
+pub mod TestExact
+pub mod Link
+pub mod Certificates
+pub mod ComputedFrames
+pub mod Scanning
 pub mod Theorems

@@ -1,23 +1,19 @@
 -- Pivotal places of any lists of width w over a field: those whose list is no combination of the lists before it. Main results: pivotal-span
 -- (a combination of lists is a combination of pivotal ones), pivotal-unique (in one way only).
 use mathlib.Core.Path.{_≡_, refl, sym, ap, ap₂, _∙_, subst}
-use mathlib.Core.Logic.{_⊎_, inl, inr}
+use mathlib.Core.Logic.{inl, inr}
 use mathlib.Core.List.{[], _∷_}
-use Prim.Native.Nat.{ℕ, zero, suc, _≤_, _<_, zero-le, suc-le-suc}
+use Prim.Native.Nat.{ℕ, zero, suc, _<_}
 use native.Mathlib.Nat.{le-of-suc-le-suc, not-suc-le-zero, le-refl, eq-or-lt-of-le}
 use native.Mathlib.Omega.{arith}
 use Rattle.algebra.specs.Rings.{RingOps, RingLaws, IsField}
-use Rattle.algebra.specs.Series.{total, dot}
+use Rattle.algebra.specs.Series.{total}
 use Rattle.algebra.specs.Independence.{All, Domain, Spanned}
+use Rattle.algebra.proofs.Rows.{slot, slot-at, slot-low}
 use Rattle.algebra.proofs.Sums as Sums
-use Rattle.algebra.proofs.Solver.{solve, var, 𝟎, 𝟏, _⊞_, _⊠_, neg}
+use Rattle.algebra.proofs.Solver.{solve, var, 𝟏, _⊞_, _⊠_, neg}
 use Rattle.algebra.proofs.Exchange as E
 use Rattle.algebra.proofs.Spans as Spans
-
-pub slot-low : {R : Type 0} (p : ℕ) (v : R) (x : ℕ → R) (q : ℕ) → q < p → E.slot p v x q ≡ x q
-slot-low zero v x q h = absurd (not-suc-le-zero h)
-slot-low (suc p) v x zero h = refl
-slot-low (suc p) v x (suc q) h = slot-low p v (λ i. x (suc i)) q (le-of-suc-le-suc h)
 
 -- y is a combination of the lists at the pivotal places below Q
 pub record PivotalSpan {M : Type 0} (o : RingOps M) (w : ℕ) (l : ℕ → ℕ → M) (Q : ℕ) (y : ℕ → M) : Type 0 where
@@ -37,17 +33,18 @@ module _ {M : Type 0} (o : RingOps M) (F : IsField o) where
   infixl 60 _+_
   infixl 70 _·_
   infix 80 -_
-  pub total-slot-last : (Q : ℕ) (v : M) (x l : ℕ → M) → total o (suc Q) (λ q. E.slot Q v x q · l q) ≡ total o Q (λ q. x q · l q) + v · l Q
+  pub total-slot-last : (Q : ℕ) (v : M) (x l : ℕ → M) → total o (suc Q) (λ q. slot Q v x q · l q) ≡ total o Q (λ q. x q · l q) + v · l Q
   total-slot-last Q v x l =
-      Sums.total-last o L Q (λ q. E.slot Q v x q · l q)
-      ∙ ap₂ _+_ (Sums.total-ext o L Q (λ q. E.slot Q v x q · l q) (λ q. x q · l q) (λ q b. ap (λ t. t · l q) (slot-low Q v x q b))) (ap (λ t. t · l Q) (E.slot-at Q v x))
+      Sums.total-last o L Q (λ q. slot Q v x q · l q)
+      ∙ ap₂ _+_ (Sums.total-ext o L Q (λ q. slot Q v x q · l q) (λ q. x q · l q) (λ q b. ap (λ t. t · l q) (slot-low Q v x q b))) (ap (λ t. t · l Q) (slot-at Q v x))
 
   module _ (w : ℕ) (l : ℕ → ℕ → M) where
-    extend : (Q : ℕ) (y z : ℕ → M) (v : M) → ((k : ℕ) → k < w → z k ≡ y k + v · l Q k) → (Spanned o All Q w l (l Q) → v ≡ O) → PivotalSpan o w l Q y → PivotalSpan o w l (suc Q) z
+    extend : (Q : ℕ) (y z : ℕ → M) (v : M) → ((k : ℕ) → k < w → z k ≡ y k + v · l Q k)
+        → (Spanned o All Q w l (l Q) → v ≡ O) → PivotalSpan o w l Q y → PivotalSpan o w l (suc Q) z
     extend Q y z v e n s = record {
-      factor = E.slot Q v (s .factor);
+      factor = slot Q v (s .factor);
       off = λ q h p. elim (eq-or-lt-of-le (le-of-suc-le-suc h)) [
-        | inl same ↦ ap (E.slot Q v (s .factor)) same ∙ E.slot-at Q v (s .factor) ∙ n (subst (λ t. Spanned o All t w l (l t)) same p)
+        | inl same ↦ ap (slot Q v (s .factor)) same ∙ slot-at Q v (s .factor) ∙ n (subst (λ t. Spanned o All t w l (l t)) same p)
         | inr less ↦ slot-low Q v (s .factor) q less ∙ s .off q less p
       ];
       is = λ k b. e k b ∙ ap (λ t. t + v · l Q k) (s .is k b) ∙ sym (total-slot-last Q v (s .factor) (λ q. l q k));
@@ -76,7 +73,8 @@ module _ {M : Type 0} (o : RingOps M) (F : IsField o) where
         go (no n) rest = extend Q before y (f Q) split (λ p. absurd (n p)) (rest before before-spanned)
 
     -- of lists that sum to zero with x Q not zero, that at Q is a combination of the others
-    pub spanned-of-relation : (Q : ℕ) (x : ℕ → M) → ((k : ℕ) → k < w → total o (suc Q) (λ q. x q · l q k) ≡ O) → (x Q ≡ O → ⊥) → Spanned o All Q w l (l Q)
+    pub spanned-of-relation : (Q : ℕ) (x : ℕ → M) → ((k : ℕ) → k < w → total o (suc Q) (λ q. x q · l q k) ≡ O)
+        → (x Q ≡ O → ⊥) → Spanned o All Q w l (l Q)
     spanned-of-relation Q x e n =
         let c = F .inverts (x Q) n in
         record { factor = λ q. - (c .0 · x q); inside = λ j b. tt; is = λ k b. at (c .0) (c .1) k b }
@@ -91,7 +89,8 @@ module _ {M : Type 0} (o : RingOps M) (F : IsField o) where
             ∙ ap (λ t. c · t) (sym (Sums.total-last o L Q (λ q. x q · l q k)) ∙ e k b)
             ∙ Sums.product-zero o L c)
 
-    pub pivotal-unique : (Q : ℕ) (x : ℕ → M) → ((q : ℕ) → q < Q → Spanned o All q w l (l q) → x q ≡ O) → ((k : ℕ) → k < w → total o Q (λ q. x q · l q k) ≡ O) → (q : ℕ) → q < Q → x q ≡ O
+    pub pivotal-unique : (Q : ℕ) (x : ℕ → M) → ((q : ℕ) → q < Q → Spanned o All q w l (l q) → x q ≡ O)
+        → ((k : ℕ) → k < w → total o Q (λ q. x q · l q k) ≡ O) → (q : ℕ) → q < Q → x q ≡ O
     pivotal-unique zero x off e = λ q h. absurd (not-suc-le-zero h)
     pivotal-unique (suc Q) x off e = go (F .decides (x Q) O) (pivotal-unique Q x (λ q h. off q (omega arith)))
       where

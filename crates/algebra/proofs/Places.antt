@@ -1,19 +1,18 @@
 -- Vectors of polynomials by their places. Main results: place-div and place-mod (the power and the component of a place), dot-places (the
 -- product of a row with a vector is the combination of the lists by the vector's coefficients).
-use mathlib.Core.Path.{_≡_, refl, sym, ap, ap₂, _∙_, subst}
-use mathlib.Core.Logic.{_⊎_, inl, inr}
-use mathlib.Core.List.{[], _∷_}
+use mathlib.Core.Path.{_≡_, refl, sym, ap, ap₂, _∙_}
+use mathlib.Core.Logic.{inl, inr}
 use Prim.Native.Nat.{ℕ, zero, suc, _≤_, _<_, zero-le, suc-le-suc, _*_, _/_, _%_, _+_ as _plus_}
-use native.Mathlib.Nat.{eq-or-lt-of-le, le-of-suc-le-suc, not-suc-le-zero, le-refl, mul-add-div, div-eq-of-lt, mul-add-mod-self-left, mod-eq-of-lt, mod-lt, div-add-mod, mul-suc, mul-zero, mul-le-mul-left, mul-le-mul-right, one-mul}
+use native.Mathlib.Nat.{eq-or-lt-of-le, mul-add-div, div-eq-of-lt, mul-add-mod-self-left, mod-eq-of-lt, mod-lt, div-add-mod, mul-suc, mul-zero, mul-le-mul-left, mul-le-mul-right, one-mul}
 use native.Mathlib.Decide.{decLe}
 use native.Mathlib.Omega.{arith}
 use Rattle.algebra.specs.Rings.{RingOps, RingLaws}
-use Rattle.algebra.specs.Series.{total, dot, coefficient, constant, series, shift, scale, Below}
+use Rattle.algebra.specs.Series.{total, dot, coefficient, series, shift, Below}
 use Rattle.algebra.specs.Divisors.{Bounded}
 use Rattle.algebra.specs.Places.{place-list}
+use Rattle.algebra.proofs.Rows as Rows
 use Rattle.algebra.proofs.Sums as Sums
 use Rattle.algebra.proofs.Series as S
-use Rattle.algebra.proofs.Bounds as B
 use Rattle.algebra.proofs.Spans as Spans
 
 pub place-div : (n k i : ℕ) → i < n → (n * k plus i) / n ≡ k
@@ -101,7 +100,8 @@ module _ {M : Type 0} (o : RingOps M) (L : RingLaws o) where
       first-apart zero = sym (L .sum-zero (g 0 · f 0))
       first-apart (suc c) = refl
 
-      rest : ((e : ℕ) → coefficient o f tail e ≡ total o K (λ k. g (suc k) · shift o k f e)) → (c : ℕ) → shift o 1 (coefficient o tail f) c ≡ total o K (λ k. g (suc k) · shift o (suc k) f c)
+      rest : ((e : ℕ) → coefficient o f tail e ≡ total o K (λ k. g (suc k) · shift o k f e)) → (c : ℕ)
+          → shift o 1 (coefficient o tail f) c ≡ total o K (λ k. g (suc k) · shift o (suc k) f c)
       rest r zero = sym (Sums.total-zero o L K (λ k. g (suc k) · O) (λ k l. Sums.product-zero o L (g (suc k))))
       rest r (suc c) = ap (λ (t : ℕ → M). t c) (S.series-laws o L .product-comm tail f) ∙ r c
 
@@ -122,13 +122,15 @@ module _ {M : Type 0} (o : RingOps M) (L : RingLaws o) where
       ∙ sym (total-grid n K (λ i k. h i k · shift o k (r i) c))
 
   -- the product of the row with a vector, as a combination of the lists at the places below Q
-  pub dot-places : (n Q : ℕ) (r h : ℕ → ℕ → M) (c : ℕ) → zero < n → BelowPlace o n Q h → dot (series o) n r h c ≡ total o Q (λ q. at n h q · place-list o n r q c)
+  pub dot-places : (n Q : ℕ) (r h : ℕ → ℕ → M) (c : ℕ) → zero < n → BelowPlace o n Q h
+      → dot (series o) n r h c ≡ total o Q (λ q. at n h q · place-list o n r q c)
   dot-places n Q r h c p b =
       dot-grid n Q r h c (bounded-of-below-place n p o Q Q h (le-times n Q p) b)
       ∙ Spans.total-truncate o L Q (n * Q) (λ q. at n h q · place-list o n r q c) (le-times n Q p) (λ q l a. ap (λ t. t · place-list o n r q c) (below-place-at n p o Q h b q l) ∙ Sums.zero-product o L (place-list o n r q c))
 
   -- a combination of the lists below Q is the product of the row with a vector
-  pub dot-spread : (n Q : ℕ) (r : ℕ → ℕ → M) (x : ℕ → M) (c : ℕ) → zero < n → dot (series o) n r (spread n (Spans.cut o Q x)) c ≡ total o Q (λ q. x q · place-list o n r q c)
+  pub dot-spread : (n Q : ℕ) (r : ℕ → ℕ → M) (x : ℕ → M) (c : ℕ) → zero < n
+      → dot (series o) n r (spread n (Rows.cut o Q x)) c ≡ total o Q (λ q. x q · place-list o n r q c)
   dot-spread n Q r x c p =
-      dot-places n Q r (spread n (Spans.cut o Q x)) c p (λ i k a l. Spans.cut-high o Q x (n * k plus i) l)
-      ∙ Sums.total-ext o L Q (λ q. at n (spread n (Spans.cut o Q x)) q · place-list o n r q c) (λ q. x q · place-list o n r q c) (λ q l. ap (λ t. t · place-list o n r q c) (at-spread n p (Spans.cut o Q x) q ∙ Spans.cut-low o Q x q l))
+      dot-places n Q r (spread n (Rows.cut o Q x)) c p (λ i k a l. Rows.cut-high o Q x (n * k plus i) l)
+      ∙ Sums.total-ext o L Q (λ q. at n (spread n (Rows.cut o Q x)) q · place-list o n r q c) (λ q. x q · place-list o n r q c) (λ q l. ap (λ t. t · place-list o n r q c) (at-spread n p (Rows.cut o Q x) q ∙ Rows.cut-low o Q x q l))

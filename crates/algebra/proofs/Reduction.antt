@@ -1,20 +1,20 @@
--- Division of vectors of polynomials by vectors with leading places. Main results: leading-multiple (the leading place of c s^e u), leading-place
--- (a vector is zero or has a leading place), reduce (a vector is a combination of the divisors and a remainder below a place).
+-- Division of vectors of polynomials by vectors with leading places. Main results: multiple-below and multiple-leading (the leading place of
+-- c s^e u), leading-place (a vector is zero or has a leading place), reduce (a vector is a combination of the divisors and a remainder below a place).
 use mathlib.Core.Path.{_≡_, refl, sym, ap, ap₂, _∙_, subst, fun-ext}
 use mathlib.Core.Logic.{_⊎_, inl, inr}
 use mathlib.Core.List.{[], _∷_}
-use Prim.Native.Nat.{ℕ, zero, suc, _≤_, _<_, zero-le, suc-le-suc, _*_, _/_, _%_, _-_, _+_ as _plus_}
-use native.Mathlib.Nat.{le-of-suc-le-suc, not-suc-le-zero, le-refl, eq-or-lt-of-le, mod-lt, div-add-mod, mul-suc, mul-le-mul-left, mul-add, mul-zero}
-use native.Mathlib.Decide.{decLe, decLt}
+use Prim.Native.Nat.{ℕ, zero, suc, _≤_, _<_, zero-le, _*_, _/_, _%_, _-_, _+_ as _plus_}
+use native.Mathlib.Nat.{le-refl, mod-lt, div-add-mod, mul-suc, mul-le-mul-left, mul-add}
+use native.Mathlib.Decide.{decLe}
 use native.Mathlib.Omega.{arith}
 use Rattle.algebra.specs.Rings.{RingOps, RingLaws, IsField}
-use Rattle.algebra.specs.Series.{total, dot, constant, series, shift, scale, Below, Polynomial}
+use Rattle.algebra.specs.Series.{total, constant, series, shift, scale, Polynomial}
 use Rattle.algebra.specs.Divisors.{AllZero}
+use Rattle.algebra.proofs.Rows as Rows
 use Rattle.algebra.proofs.Sums as Sums
-use Rattle.algebra.proofs.Solver.{solve, var, 𝟎, 𝟏, _⊞_, _⊠_, neg}
+use Rattle.algebra.proofs.Solver.{solve, var, _⊞_, neg}
 use Rattle.algebra.proofs.Series as S
 use Rattle.algebra.proofs.Bounds as Bounds
-use Rattle.algebra.proofs.Exchange as E
 use Rattle.algebra.proofs.Spans as Spans
 use Rattle.algebra.proofs.Places as Places
 use Rattle.algebra.proofs.Places.{at, BelowPlace}
@@ -89,15 +89,19 @@ module _ {M : Type 0} (o : RingOps M) (F : IsField o) (n : ℕ) (positive : zero
   below-place-difference Q h e p q i k a l = ap₂ (λ s t. s ⊕ minus t) (p i k a l) (q i k a l) ∙ L .sum-negative O
 
   -- a vector is zero or has a leading place
-  pub leading-place : (Q : ℕ) (h : ℕ → ℕ → M) → BelowPlace o n Q h → AllZero o n h ⊎ ((q : ℕ) × (q < Q) × (at n h q ≡ O → ⊥) × BelowPlace o n (suc q) h)
+  pub leading-place : (Q : ℕ) (h : ℕ → ℕ → M) → BelowPlace o n Q h
+      → AllZero o n h ⊎ ((q : ℕ) × (q < Q) × (at n h q ≡ O → ⊥) × BelowPlace o n (suc q) h)
   leading-place zero h b = inl (λ i a. fun-ext (λ k. b i k a zero-le))
   leading-place (suc Q) h b = go (F .decides (at n h Q) O) (leading-place Q h)
     where
-      wider : AllZero o n h ⊎ ((q : ℕ) × (q < Q) × (at n h q ≡ O → ⊥) × BelowPlace o n (suc q) h) → AllZero o n h ⊎ ((q : ℕ) × (q < suc Q) × (at n h q ≡ O → ⊥) × BelowPlace o n (suc q) h)
+      wider : AllZero o n h ⊎ ((q : ℕ) × (q < Q) × (at n h q ≡ O → ⊥) × BelowPlace o n (suc q) h)
+          → AllZero o n h ⊎ ((q : ℕ) × (q < suc Q) × (at n h q ≡ O → ⊥) × BelowPlace o n (suc q) h)
       wider (inl z) = inl z
       wider (inr (q, l, x, c)) = inr (q, omega arith, x, c)
 
-      go : Dec (at n h Q ≡ O) → (BelowPlace o n Q h → AllZero o n h ⊎ ((q : ℕ) × (q < Q) × (at n h q ≡ O → ⊥) × BelowPlace o n (suc q) h)) → AllZero o n h ⊎ ((q : ℕ) × (q < suc Q) × (at n h q ≡ O → ⊥) × BelowPlace o n (suc q) h)
+      go : Dec (at n h Q ≡ O)
+          → (BelowPlace o n Q h → AllZero o n h ⊎ ((q : ℕ) × (q < Q) × (at n h q ≡ O → ⊥) × BelowPlace o n (suc q) h))
+          → AllZero o n h ⊎ ((q : ℕ) × (q < suc Q) × (at n h q ≡ O → ⊥) × BelowPlace o n (suc q) h)
       go (yes e) rest = wider (rest (Places.below-place-top n positive o Q h b e))
       go (no x) rest = inr (Q, le-refl (suc Q), x, b)
 
@@ -117,16 +121,16 @@ module _ {M : Type 0} (o : RingOps M) (F : IsField o) (n : ℕ) (positive : zero
     -- add x u_j back
     step : (j : ℕ) → j < m → (x : ℕ → M) → Polynomial o x → (h : ℕ → ℕ → M) → Reduced o n m B u Z (λ i. h i + (- (x · u j i))) → Reduced o n m B u Z h
     step j l x p h s = record {
-      factor = λ a. s .factor a + E.slot j x (λ b. 𝟘) a;
-      polynomials = λ a c. Bounds.polynomial-sum o L (s .factor a) (E.slot j x (λ b. 𝟘) a) (s .polynomials a c) (E.slot-both (Polynomial o) j x 𝟘 a p (Bounds.polynomial-zero o L));
+      factor = λ a. s .factor a + Rows.slot j x (λ b. 𝟘) a;
+      polynomials = λ a c. Bounds.polynomial-sum o L (s .factor a) (Rows.slot j x (λ b. 𝟘) a) (s .polynomials a c) (Rows.slot-both (Polynomial o) j x 𝟘 a p (Bounds.polynomial-zero o L));
       remainder = s .remainder;
       below = s .below;
       inside = s .inside;
       is = λ i.
           solve (series o) SL (h i ∷ (x · u j i) ∷ []) (var 0) (var 0 ⊞ neg (var 1) ⊞ var 1) refl
           ∙ ap₂ _+_ (s .is i) (sym (Spans.total-slot (series o) SL m j x (λ a. u a i) l))
-          ∙ solve (series o) SL (total (series o) m (λ a. s .factor a · u a i) ∷ s .remainder i ∷ total (series o) m (λ a. E.slot j x (λ b. 𝟘) a · u a i) ∷ []) (var 0 ⊞ var 1 ⊞ var 2) (var 0 ⊞ var 2 ⊞ var 1) refl
-          ∙ ap (λ t. t + s .remainder i) (sym (Sums.total-sum (series o) SL m (λ a. s .factor a · u a i) (λ a. E.slot j x (λ b. 𝟘) a · u a i)) ∙ Sums.total-ext (series o) SL m (λ a. s .factor a · u a i + E.slot j x (λ b. 𝟘) a · u a i) (λ a. (s .factor a + E.slot j x (λ b. 𝟘) a) · u a i) (λ a c. sym (Sums.sum-product (series o) SL (s .factor a) (E.slot j x (λ b. 𝟘) a) (u a i))));
+          ∙ solve (series o) SL (total (series o) m (λ a. s .factor a · u a i) ∷ s .remainder i ∷ total (series o) m (λ a. Rows.slot j x (λ b. 𝟘) a · u a i) ∷ []) (var 0 ⊞ var 1 ⊞ var 2) (var 0 ⊞ var 2 ⊞ var 1) refl
+          ∙ ap (λ t. t + s .remainder i) (sym (Sums.total-sum (series o) SL m (λ a. s .factor a · u a i) (λ a. Rows.slot j x (λ b. 𝟘) a · u a i)) ∙ Sums.total-ext (series o) SL m (λ a. s .factor a · u a i + Rows.slot j x (λ b. 𝟘) a · u a i) (λ a. (s .factor a + Rows.slot j x (λ b. 𝟘) a) · u a i) (λ a c. sym (Sums.sum-product (series o) SL (s .factor a) (Rows.slot j x (λ b. 𝟘) a) (u a i))));
     }
 
     pub reduce : (Q : ℕ) (h : ℕ → ℕ → M) → Z h → BelowPlace o n Q h → Reduced o n m B u Z h

@@ -2,13 +2,13 @@
 -- plain sum), shift-at and shift-low (the coefficients of s^n f), shift-product, constant-product.
 use mathlib.Core.Path.{_≡_, refl, sym, ap, ap₂, _∙_, fun-ext}
 use mathlib.Core.List.{[], _∷_}
-use Prim.Native.Nat.{ℕ, zero, suc, _≤_, _<_, _-_, zero-le, suc-le-suc, _+_ as _plus_}
+use Prim.Native.Nat.{ℕ, zero, suc, _<_, _-_, _+_ as _plus_}
 use native.Mathlib.Nat.{suc-add, zero-add, sub-zero, suc-sub-suc, le-of-suc-le-suc, not-suc-le-zero}
 use native.Mathlib.Omega.{arith}
 use Rattle.algebra.specs.Rings.{RingOps, RingLaws}
 use Rattle.algebra.specs.Series.{total, coefficient, constant, series, shift, scale}
 use Rattle.algebra.proofs.Sums as Sums
-use Rattle.algebra.proofs.Solver.{solve, var, 𝟎, 𝟏, _⊞_, _⊠_, neg}
+use Rattle.algebra.proofs.Solver.{solve, var, _⊞_, _⊠_}
 
 module _ {M : Type 0} (o : RingOps M) (L : RingLaws o) where
   open RingOps o using (zero as O, one as I, sum as _+_, negative as -_, product as _·_)
@@ -86,7 +86,8 @@ module _ {M : Type 0} (o : RingOps M) (L : RingLaws o) where
   coefficient-zero f g (suc k) h = ap₂ _+_ (h 0 (suc k) (zero-add (suc k))) (coefficient-zero (tail f) g k (λ i j e. h (suc i) j (suc-add i j ∙ ap suc e))) ∙ L .sum-zero O
 
   -- a coefficient with one nonzero term is that term
-  pub coefficient-one-term : (f g : ℕ → M) (k i j : ℕ) → i plus j ≡ k → ((p q : ℕ) → p plus q ≡ k → (p ≡ i → ⊥) → f p · g q ≡ O) → coefficient o f g k ≡ f i · g j
+  pub coefficient-one-term : (f g : ℕ → M) (k i j : ℕ) → i plus j ≡ k
+      → ((p q : ℕ) → p plus q ≡ k → (p ≡ i → ⊥) → f p · g q ≡ O) → coefficient o f g k ≡ f i · g j
   coefficient-one-term f g zero zero j e h = ap (λ t. f 0 · g t) (sym (sym (zero-add j) ∙ e))
   coefficient-one-term f g zero (suc i) j e h = absurd (omega arith)
   coefficient-one-term f g (suc k) zero j e h =

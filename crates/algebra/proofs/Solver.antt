@@ -164,7 +164,8 @@ module _ {R : Type 0} (o : RingOps R) (L : RingLaws o) (values : List R) where
   of-terms [] = O
   of-terms (signed b m ∷ ts) = of-sign b (of-monomial m) + of-terms ts
 
-  sort-var-sound : (r : Order) (v w : ℕ) (ws rest : Monomial) → of-monomial rest ≡ entry values v · of-monomial ws → of-monomial (sort-var r v w ws rest) ≡ entry values v · (entry values w · of-monomial ws)
+  sort-var-sound : (r : Order) (v w : ℕ) (ws rest : Monomial) → of-monomial rest ≡ entry values v · of-monomial ws
+      → of-monomial (sort-var r v w ws rest) ≡ entry values v · (entry values w · of-monomial ws)
   sort-var-sound less v w ws rest e = refl
   sort-var-sound same v w ws rest e = refl
   sort-var-sound more v w ws rest e = ap (λ t. entry values w · t) e ∙ Sums.product-left-comm o L (entry values w) (entry values v) (of-monomial ws)
@@ -180,13 +181,16 @@ module _ {R : Type 0} (o : RingOps R) (L : RingLaws o) (values : List R) where
   drop-opposite : (x y z : R) → x + y ≡ O → z ≡ x + (y + z)
   drop-opposite x y z e = sym (Sums.zero-sum o L z) ∙ ap (λ t. t + z) (sym e) ∙ L .sum-assoc x y z
 
-  cancel-sound : (b c : Bool) (m n : Monomial) (ts : List Term) → m ≡ n → of-terms (cancel b c m n ts) ≡ of-sign b (of-monomial m) + (of-sign c (of-monomial n) + of-terms ts)
+  cancel-sound : (b c : Bool) (m n : Monomial) (ts : List Term) → m ≡ n
+      → of-terms (cancel b c m n ts) ≡ of-sign b (of-monomial m) + (of-sign c (of-monomial n) + of-terms ts)
   cancel-sound true true m n ts e = refl
   cancel-sound true false m n ts e = drop-opposite (of-monomial m) (- of-monomial n) (of-terms ts) (ap (λ (t : Monomial). of-monomial t + (- of-monomial n)) e ∙ L .sum-negative (of-monomial n))
   cancel-sound false true m n ts e = drop-opposite (- of-monomial m) (of-monomial n) (of-terms ts) (ap (λ (t : Monomial). (- of-monomial t) + of-monomial n) e ∙ L .sum-comm (- of-monomial n) (of-monomial n) ∙ L .sum-negative (of-monomial n))
   cancel-sound false false m n ts e = refl
 
-  sort-term-sound : (r : Order) (b : Bool) (m : Monomial) (c : Bool) (n : Monomial) (ts rest : List Term) → (IsSame r → m ≡ n) → of-terms rest ≡ of-sign b (of-monomial m) + of-terms ts → of-terms (sort-term r b m c n ts rest) ≡ of-sign b (of-monomial m) + (of-sign c (of-monomial n) + of-terms ts)
+  sort-term-sound : (r : Order) (b : Bool) (m : Monomial) (c : Bool) (n : Monomial) (ts rest : List Term)
+      → (IsSame r → m ≡ n) → of-terms rest ≡ of-sign b (of-monomial m) + of-terms ts
+      → of-terms (sort-term r b m c n ts rest) ≡ of-sign b (of-monomial m) + (of-sign c (of-monomial n) + of-terms ts)
   sort-term-sound less b m c n ts rest s e = refl
   sort-term-sound same b m c n ts rest s e = cancel-sound b c m n ts (s tt)
   sort-term-sound more b m c n ts rest s e = ap (λ t. of-sign c (of-monomial n) + t) e ∙ Sums.sum-left-comm o L (of-sign c (of-monomial n)) (of-sign b (of-monomial m)) (of-terms ts)

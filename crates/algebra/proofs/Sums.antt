@@ -1,11 +1,11 @@
 -- Finite sums in a commutative ring. Main results: total-sum and total-scale (linearity), total-swap, total-split, total-one (one nonzero
 -- term), total-skip (one term taken out).
 use mathlib.Core.Path.{_≡_, refl, sym, ap, ap₂, _∙_}
-use Prim.Native.Nat.{ℕ, zero, suc, _≤_, _<_, zero-le, suc-le-suc, _+_ as _plus_}
+use Prim.Native.Nat.{ℕ, zero, suc, _<_, zero-le, suc-le-suc, _+_ as _plus_}
 use native.Mathlib.Nat.{suc-add, zero-add, le-of-suc-le-suc, not-suc-le-zero, suc-ne-zero, suc-inj}
-use native.Mathlib.Omega.{arith}
 use Rattle.algebra.specs.Rings.{RingOps, RingLaws}
-use Rattle.algebra.specs.Series.{total, dot}
+use Rattle.algebra.proofs.Rows.{skip}
+use Rattle.algebra.specs.Series.{total}
 
 module _ {R : Type 0} (o : RingOps R) (L : RingLaws o) where
   open RingOps o using (zero as 𝟘, one as 𝟙, sum as _+_, negative as -_, product as _·_)
@@ -107,3 +107,11 @@ module _ {R : Type 0} (o : RingOps R) (L : RingLaws o) where
   total-one zero p f h e = absurd (not-suc-le-zero h)
   total-one (suc n) zero f h e = ap (λ t. f 0 + t) (total-zero n (λ k. f (suc k)) (λ k b. e (suc k) (suc-le-suc b) (suc-ne-zero k))) ∙ L .sum-zero (f 0)
   total-one (suc n) (suc p) f h e = ap₂ _+_ (e 0 (suc-le-suc zero-le) (λ z. suc-ne-zero p (sym z))) (total-one n p (λ k. f (suc k)) (le-of-suc-le-suc h) (λ k b q. e (suc k) (suc-le-suc b) (λ z. q (suc-inj z)))) ∙ zero-sum (f (suc p))
+
+  -- one term taken out of a sum
+  pub total-skip : (n p : ℕ) (f : ℕ → R) → p < suc n → total o (suc n) f ≡ f p + total o n (λ j. f (skip p j))
+  total-skip n zero f h = refl
+  total-skip zero (suc p) f h = absurd (not-suc-le-zero (le-of-suc-le-suc h))
+  total-skip (suc n) (suc p) f h =
+      ap (λ t. f 0 + t) (total-skip n p (λ k. f (suc k)) (le-of-suc-le-suc h))
+      ∙ sum-left-comm (f 0) (f (suc p)) (total o n (λ j. f (suc (skip p j))))

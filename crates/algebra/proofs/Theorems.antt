@@ -1,4 +1,5 @@
--- The theorems that the functions of the crate stand for, put together from the lemmas.
+-- The theorems up to the row divided by its gcd, put together from the lemmas. Those on frames, the test and the link end the files
+-- OptimalFrames, TestExact and Link.
 use mathlib.Core.Path.{refl}
 use native.Mathlib.Omega.{arith}
 use Rattle.algebra.specs.Rings.{RingOps, RingLaws, IsField}

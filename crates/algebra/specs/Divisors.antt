@@ -1,8 +1,8 @@
 -- Division with remainder, divisors, the monic greatest common divisor of a row of polynomials, and the row divided by it.
 use mathlib.Core.Path.{_≡_}
-use Prim.Native.Nat.{ℕ, suc, _≤_, _<_}
+use Prim.Native.Nat.{ℕ, suc, _<_}
 use Rattle.algebra.specs.Rings.{RingOps}
-use Rattle.algebra.specs.Series.{dot, series, Below, Degree, Polynomial}
+use Rattle.algebra.specs.Series.{dot, series, Below, Polynomial}
 
 -- f divided by a polynomial b of degree e: a quotient, and a remainder below s^e
 pub record Division {M : Type 0} (o : RingOps M) (e : ℕ) (f b : ℕ → M) : Type 0 where

@@ -6,3 +6,7 @@ pub mod Theorems
 pub mod Places
 pub mod Frames
 pub mod Optimal
+pub mod DegreeTest
+pub mod Link
+pub mod Lists
+pub mod Scanning

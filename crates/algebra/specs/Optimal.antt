@@ -24,7 +24,9 @@ pub record ExactlyOneSum {M : Type 0} (o : RingOps M) (n m : ℕ) (u : ℕ → �
   pub polynomials : (j : ℕ) → j < m → Polynomial o (factor j)
   pub is : (i : ℕ) → i < n → h i ≡ total (series o) m (λ j. series o .product (factor j) (u j i))
   pub no-higher : (j : ℕ) → j < m → DegreeAtMost o n (λ i. series o .product (factor j) (u j i)) h
-  pub unique : (x : ℕ → ℕ → M) → ((j : ℕ) → j < m → Polynomial o (x j)) → ((i : ℕ) → i < n → h i ≡ total (series o) m (λ j. series o .product (x j) (u j i))) → (j : ℕ) → j < m → x j ≡ factor j
+  pub unique : (x : ℕ → ℕ → M) → ((j : ℕ) → j < m → Polynomial o (x j))
+      → ((i : ℕ) → i < n → h i ≡ total (series o) m (λ j. series o .product (x j) (u j i))) → (j : ℕ) → j < m
+      → x j ≡ factor j
 
 -- m syzygies, independent over polynomials, with degrees that never fall
 pub record OrderedSyzygies {M : Type 0} (o : RingOps M) (n m : ℕ) (a : ℕ → ℕ → M) (w : ℕ → ℕ → ℕ → M) : Type 0 where

@@ -1,6 +1,6 @@
 -- Finite sums, series of members with their product, polynomials as bounded series, exact degrees. Every crate's clauses on polynomials cite it.
 use mathlib.Core.Path.{_≡_}
-use Prim.Native.Nat.{ℕ, zero, suc, _≤_, _<_}
+use Prim.Native.Nat.{ℕ, zero, suc, _≤_, _+_}
 use Rattle.algebra.specs.Rings.{RingOps}
 
 -- f 0 + f 1 + .. + f (n - 1)
@@ -11,6 +11,11 @@ total o (suc n) f = o .sum (f 0) (total o n (λ k. f (suc k)))
 -- x 0 · y 0 + .. + x (n - 1) · y (n - 1)
 abbrev pub dot : {R : Type 0} → RingOps R → ℕ → (ℕ → R) → (ℕ → R) → R
 dot o n x y = total o n (λ i. o .product (x i) (y i))
+
+-- k 0 + k 1 + .. + k (n - 1), of numbers
+abbrev pub sum-below : ℕ → (ℕ → ℕ) → ℕ
+sum-below zero k = 0
+sum-below (suc n) k = k 0 + sum-below n (λ j. k (suc j))
 
 -- A series gives the coefficient of each power of s. Coefficient k of a product: the sum of f i · g j over i + j = k.
 abbrev pub coefficient : {M : Type 0} → RingOps M → (ℕ → M) → (ℕ → M) → ℕ → M

@@ -1,6 +1,6 @@
 // Mathematics over any ring or field of members: no data, only definitions, lemmas, and functions whose contracts are the theorems.
 ghost use Rattle.algebra.specs.Rings.{RingOps, IsField};
-ghost use Rattle.algebra.specs.Theorems.{SeriesRing, PolynomialDegrees, DivisionWithRemainder, GreatestCommonDivisor, ExchangeOverField, RowDividedByGcd};
+ghost use Rattle.algebra.specs.Theorems.{SeriesRing, PolynomialDegrees, DivisionWithRemainder, GreatestCommonDivisor, ExchangeOverField, RowDividedByGcd, OptimalFrames, TestByDegrees, CleanLink};
 
 // A field, by its members and the operations on them.
 pub trait Members {
@@ -33,4 +33,16 @@ pub fn more_unknowns_than_equations_have_a_solution<K: Members>()
 
 pub fn row_divided_by_its_gcd_reaches_every_small_polynomial<K: Members>()
     ensures { λ _. ⌜ RowDividedByGcd ops ⌝ }
+{}
+
+pub fn frames_exist_are_unique_and_degree_optimal<K: Members>()
+    ensures { λ _. ⌜ OptimalFrames ops ⌝ }
+{}
+
+pub fn test_by_degrees_is_passed_exactly_by_degree_optimal_columns<K: Members>()
+    ensures { λ _. ⌜ TestByDegrees ops ⌝ }
+{}
+
+pub fn blocks_are_clean_exactly_when_they_encode_a_message<K: Members>()
+    ensures { λ _. ⌜ CleanLink ops ⌝ }
 {}

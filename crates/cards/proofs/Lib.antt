@@ -1,4 +1,9 @@
+pub mod Gathering
 pub mod Generators
+pub mod OneReading
 pub mod Overwriting
+pub mod RoundTrip
 pub mod Terms
+pub mod Walks
 pub mod Whole
+pub mod WrittenChains

@@ -1,4 +1,6 @@
 // Cards: designs kept as bytes.
 mod bytes;
 mod chains;
+pub mod fault;
+pub mod read;
 pub mod write;

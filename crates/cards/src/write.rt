@@ -1,4 +1,7 @@
 // Writing a card.
+ghost use lib.ListN.{take};
+ghost use Rattle.std.specs.Results.{Cases};
+ghost use Rattle.cards.specs.RoundTrip.{ReadsBack};
 ghost use Rattle.cards.specs.Writing.{Writes};
 use crate::bytes::clear;
 use crate::chains::write_chains;
@@ -13,7 +16,8 @@ pub fn write_card<F: Field>(
     generators: &[F],
     buffer: &mut [u8],
 ) -> Result<usize, DesignFault>
-    ensures { λ r. ⌜ Writes (λ x. number (member x)) tag (now (draft .entry) .n) (now (generators .entry)) (now (buffer .entry)) r (now (buffer .exit)) ⌝ }
+    ensures written { λ r. ⌜ Writes (λ x. number (member x)) tag (now (draft .entry) .n) (now (generators .entry)) (now (buffer .entry)) r (now (buffer .exit)) ⌝ }
+    ensures read_back { λ r. ⌜ Cases r (λ long. ReadsBack ops member number order tag (now (draft .entry) .n) (now (generators .entry)) (take long (now (buffer .exit)))) (λ _. Unit {0}) ⌝ }
 {
     if generators.len() != 136 || buffer.len() != 555 {
         return Err(DesignFault::TableLength);

@@ -1,2 +1,3 @@
 pub mod Drafts
 pub mod Faults
+pub mod Frames

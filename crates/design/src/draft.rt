@@ -19,4 +19,12 @@ impl Draft {
     {
         self.n
     }
+
+    // The draft of n generators.
+    pub(crate) fn of(n: usize) -> Draft
+        requires { ⌜ 2 ≤ n ⌝ ∗ ⌜ n ≤ 8 ⌝ }
+        ensures { λ r. ⌜ r .n ≡ n ⌝ }
+    {
+        Draft { n }
+    }
 }

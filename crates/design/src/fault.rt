@@ -27,6 +27,13 @@ pub enum DesignFault {
     Field(FieldFault),
 }
 
+// A refusal, with the design that was brought.
+#[derive(Drop)]
+pub struct HandedBack<T: Drop> {
+    pub design: T,
+    pub fault: DesignFault,
+}
+
 pub impl Refusal for DesignFault as DesignRefusal {
     ghost numbered = { design-number };
 

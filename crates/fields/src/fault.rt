@@ -74,3 +74,19 @@ pub impl fmt::Display for FieldFault as FieldFaultDisplay {
         write!(f, "the code is not below the field's size")
     }
 }
+
+// A refusal as text: its number, layer, place and reason.
+#[derive(Drop)]
+pub struct RefusalText<'a, E: Refusal + fmt::Display> {
+    pub fault: &'a E,
+}
+
+pub impl<E: Refusal + fmt::Display> fmt::Display for RefusalText<'_, E> as RefusalTextDisplay {
+    fn fmt<W: fmt::Write>(&self, f: &mut fmt::Formatter<W>) -> fmt::Result {
+        let fault = self.fault;
+        let number = fault.number();
+        let layer = fault.layer().number();
+        let place = fault.place();
+        write!(f, "refused {number}, layer {layer}, place {place}: {fault}")
+    }
+}

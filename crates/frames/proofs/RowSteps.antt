@@ -16,7 +16,7 @@ use Rattle.algebra.proofs.Bounds as B
 use Rattle.algebra.proofs.Series as S
 use Rattle.algebra.proofs.Sums as Sums
 use Rattle.tables.specs.Places.{at, Within, Apart, Kept, KeptTwo, Cleared, poly-at}
-use Rattle.tables.specs.Polynomials.{DegreeOf}
+use Rattle.polynomials.specs.Polynomials.{DegreeOf}
 use Rattle.tables.proofs.Parts as P
 use Rattle.frames.specs.Common.{GcdOfPair, GcdOfFirst, MonicLike}
 use Rattle.frames.specs.Rows.{generator-in, gcd-in, quotient-in, ZeroOutside, Larger, Highest, DividedByGcd}
@@ -229,3 +229,7 @@ module _ {F R : Type 0} (o : RingOps R) (L : RingLaws o) (member : F → R) wher
       found (inl (z, s)) =
           absurd (monic-degree o laws (gcd-in o member xs) g e like .top (ap (λ (t : ℕ → R). t e)
           (zero-of-row o L n a g gcd (λ i l. sym (divided .0 i l) ∙ ap (series o .product g) (z i l) ∙ Sums.product-zero (series o) (S.series-laws o L) g))))
+
+pub larger-bound : {R : Type 0} (o : RingOps R) (f : ℕ → R) (d r : ℕ) (found : Option ℕ) → d ≤ 16 → DegreeOf o 17 f found → Larger d found r → r ≤ 16
+larger-bound o f d r None h degree is = omega arith
+larger-bound o f d r (Some k) h degree is = let l = degree .0 in omega arith

@@ -92,10 +92,7 @@ pub fn check_division<F: Field>(
         if i < n {
             let quotient = part(work, ROW + 17 * i);
             highest = top(quotient).max(highest);
-            check(equal(
-                multiply::<F>(divisor, quotient),
-                part(generators, 17 * i),
-            ))?;
+            check(equal(multiply::<F>(divisor, quotient), part(generators, 17 * i)))?;
         }
     }
     check_eq(highest, degrees.row)?;

@@ -37,12 +37,7 @@ fn fill<F: Field>(n: usize, e: usize, seed: u32, generators: &mut [F]) {
 }
 
 // Every monic polynomial of degree 1, and of degree 2 where that is asked for.
-fn trials<F: Field>(
-    n: usize,
-    generators: &[F],
-    work: &[F],
-    quadratics: bool,
-) -> Result<(), Fail> {
+fn trials<F: Field>(n: usize, generators: &[F], work: &[F], quadratics: bool) -> Result<(), Fail> {
     for low in 0..F::size() {
         check_trial(n, generators, work, 1, low, 0)?;
         if quadratics {
@@ -55,11 +50,7 @@ fn trials<F: Field>(
 }
 
 // From 2 to 8 generators, with factors of degree 0 to 16; then a row of zeros.
-fn rows<F: Field>(
-    generators: &mut [F],
-    work: &mut [F],
-    quadratics: bool,
-) -> Result<(), Fail> {
+fn rows<F: Field>(generators: &mut [F], work: &mut [F], quadratics: bool) -> Result<(), Fail> {
     for e in 0..17usize {
         let n = 2 + e % 7;
         let seed = 1 + e as u32;
@@ -80,29 +71,17 @@ fn rows<F: Field>(
 
 #[test]
 fn tone_rows() -> Result<(), Fail> {
-    rows(
-        &mut [Tone::zero(); 136],
-        &mut [Tone::one(); 4521],
-        true,
-    )
+    rows(&mut [Tone::zero(); 136], &mut [Tone::one(); 4521], true)
 }
 
 #[test]
 fn nibble_rows() -> Result<(), Fail> {
-    rows(
-        &mut [Nibble::zero(); 136],
-        &mut [Nibble::one(); 4521],
-        true,
-    )
+    rows(&mut [Nibble::zero(); 136], &mut [Nibble::one(); 4521], true)
 }
 
 #[test]
 fn byte_rows() -> Result<(), Fail> {
-    rows(
-        &mut [Byte::zero(); 136],
-        &mut [Byte::one(); 4521],
-        false,
-    )
+    rows(&mut [Byte::zero(); 136], &mut [Byte::one(); 4521], false)
 }
 
 #[test]

@@ -2,7 +2,8 @@
 use design::fault::DesignFault;
 use design::fault::DesignFaultDisplay;
 use design::fault::DesignRefusal;
-use fields::fault::Refusal;
+use fields::fault::RefusalText;
+use fields::fault::RefusalTextDisplay;
 use std::fmt;
 
 // One call on a design, with the numbers that it is brought, which may be any.
@@ -33,10 +34,8 @@ pub impl fmt::Display for Answer as AnswerDisplay {
         match self {
             Answer::Put(Ok(_)) => write!(f, "written"),
             Answer::Put(Err(fault)) => {
-                let number = fault.number();
-                let layer = fault.layer().number();
-                let place = fault.place();
-                write!(f, "refused {number}, layer {layer}, place {place}: {fault}")
+                let text = RefusalText { fault };
+                write!(f, "{text}")
             }
         }
     }

@@ -12,6 +12,7 @@ use Rattle.algebra.specs.Rings.{RingOps, RingLaws, FieldLaws, Invertible, Numbe
 use Rattle.fields.specs.Quadratics.{quadratic, Rootless}
 use Rattle.fields.proofs.Tests.{every, every-below, every-pair, every-triple}
 use Rattle.nibbles.specs.Nibbles.{codeOf, nibbles, nibbleOf, carryless, reduced, nibble-ops}
+use Rattle.nibbles.specs.Tables.{entry, inverses}
 use Rattle.nibbles.specs.declared.Nibble.{Nibble}
 use Rattle.nibbles.specs.declared.Nibble.the-variants.{N0, N1, N2, N3, N4, N5, N6, N7, N8, N9, N10, N11, N12, N13, N14, N15}
 
@@ -45,30 +46,6 @@ code-below x = let e : codeOf x ≡ codeOf x % 16 = ap codeOf (sym (nibble-code 
 
 pub code-apart : (x y : Nibble) → codeOf x ≡ codeOf y → x ≡ y
 code-apart x y e = sym (nibble-code x) ∙ ap nibbleOf e ∙ nibble-code y
-
--- the table of products
-abbrev pub products : List (List ℕ)
-products =
-    (0 ∷ 0 ∷ 0 ∷ 0 ∷ 0 ∷ 0 ∷ 0 ∷ 0 ∷ 0 ∷ 0 ∷ 0 ∷ 0 ∷ 0 ∷ 0 ∷ 0 ∷ 0 ∷ [])
-    ∷ (0 ∷ 1 ∷ 2 ∷ 3 ∷ 4 ∷ 5 ∷ 6 ∷ 7 ∷ 8 ∷ 9 ∷ 10 ∷ 11 ∷ 12 ∷ 13 ∷ 14 ∷ 15 ∷ [])
-    ∷ (0 ∷ 2 ∷ 4 ∷ 6 ∷ 8 ∷ 10 ∷ 12 ∷ 14 ∷ 3 ∷ 1 ∷ 7 ∷ 5 ∷ 11 ∷ 9 ∷ 15 ∷ 13 ∷ [])
-    ∷ (0 ∷ 3 ∷ 6 ∷ 5 ∷ 12 ∷ 15 ∷ 10 ∷ 9 ∷ 11 ∷ 8 ∷ 13 ∷ 14 ∷ 7 ∷ 4 ∷ 1 ∷ 2 ∷ [])
-    ∷ (0 ∷ 4 ∷ 8 ∷ 12 ∷ 3 ∷ 7 ∷ 11 ∷ 15 ∷ 6 ∷ 2 ∷ 14 ∷ 10 ∷ 5 ∷ 1 ∷ 13 ∷ 9 ∷ [])
-    ∷ (0 ∷ 5 ∷ 10 ∷ 15 ∷ 7 ∷ 2 ∷ 13 ∷ 8 ∷ 14 ∷ 11 ∷ 4 ∷ 1 ∷ 9 ∷ 12 ∷ 3 ∷ 6 ∷ [])
-    ∷ (0 ∷ 6 ∷ 12 ∷ 10 ∷ 11 ∷ 13 ∷ 7 ∷ 1 ∷ 5 ∷ 3 ∷ 9 ∷ 15 ∷ 14 ∷ 8 ∷ 2 ∷ 4 ∷ [])
-    ∷ (0 ∷ 7 ∷ 14 ∷ 9 ∷ 15 ∷ 8 ∷ 1 ∷ 6 ∷ 13 ∷ 10 ∷ 3 ∷ 4 ∷ 2 ∷ 5 ∷ 12 ∷ 11 ∷ [])
-    ∷ (0 ∷ 8 ∷ 3 ∷ 11 ∷ 6 ∷ 14 ∷ 5 ∷ 13 ∷ 12 ∷ 4 ∷ 15 ∷ 7 ∷ 10 ∷ 2 ∷ 9 ∷ 1 ∷ [])
-    ∷ (0 ∷ 9 ∷ 1 ∷ 8 ∷ 2 ∷ 11 ∷ 3 ∷ 10 ∷ 4 ∷ 13 ∷ 5 ∷ 12 ∷ 6 ∷ 15 ∷ 7 ∷ 14 ∷ [])
-    ∷ (0 ∷ 10 ∷ 7 ∷ 13 ∷ 14 ∷ 4 ∷ 9 ∷ 3 ∷ 15 ∷ 5 ∷ 8 ∷ 2 ∷ 1 ∷ 11 ∷ 6 ∷ 12 ∷ [])
-    ∷ (0 ∷ 11 ∷ 5 ∷ 14 ∷ 10 ∷ 1 ∷ 15 ∷ 4 ∷ 7 ∷ 12 ∷ 2 ∷ 9 ∷ 13 ∷ 6 ∷ 8 ∷ 3 ∷ [])
-    ∷ (0 ∷ 12 ∷ 11 ∷ 7 ∷ 5 ∷ 9 ∷ 14 ∷ 2 ∷ 10 ∷ 6 ∷ 1 ∷ 13 ∷ 15 ∷ 3 ∷ 4 ∷ 8 ∷ [])
-    ∷ (0 ∷ 13 ∷ 9 ∷ 4 ∷ 1 ∷ 12 ∷ 8 ∷ 5 ∷ 2 ∷ 15 ∷ 11 ∷ 6 ∷ 3 ∷ 14 ∷ 10 ∷ 7 ∷ [])
-    ∷ (0 ∷ 14 ∷ 15 ∷ 1 ∷ 13 ∷ 3 ∷ 2 ∷ 12 ∷ 9 ∷ 7 ∷ 6 ∷ 8 ∷ 4 ∷ 10 ∷ 11 ∷ 5 ∷ [])
-    ∷ (0 ∷ 15 ∷ 13 ∷ 2 ∷ 9 ∷ 6 ∷ 4 ∷ 11 ∷ 1 ∷ 14 ∷ 12 ∷ 3 ∷ 8 ∷ 7 ∷ 5 ∷ 10 ∷ [])
-    ∷ []
-
-abbrev entry : ℕ → ℕ → ℕ
-entry a b = getD (getD products a []) b 0
 
 ruled : ℕ → ℕ → Bool
 ruled a b = eqb (codeOf (nibbleOf (reduced (carryless a b)))) (entry a b)
@@ -157,13 +134,10 @@ nibble-numbering = record {
 }
 
 -- the nibble of the table's entry is the product
-pub product-nibble : (x y : Nibble) → nibbleOf (getD (getD products (codeOf x) []) (codeOf y) 0) ≡ nibble-ops .product x y
+pub product-nibble : (x y : Nibble) → nibbleOf (entry (codeOf x) (codeOf y)) ≡ nibble-ops .product x y
 product-nibble x y = ap nibbleOf (sym (code-product x y)) ∙ nibble-code (nibble-ops .product x y)
 
--- the table of inverses
-abbrev pub inverses : List ℕ
-inverses = 0 ∷ 1 ∷ 9 ∷ 14 ∷ 13 ∷ 11 ∷ 7 ∷ 6 ∷ 15 ∷ 2 ∷ 12 ∷ 5 ∷ 10 ∷ 4 ∷ 3 ∷ 8 ∷ []
-
+-- the table's rule, as a test
 inverted : ℕ → Bool
 inverted k = eqb (entry (suc k) (getD inverses (suc k) 0 % 16)) 1
 

@@ -1,7 +1,9 @@
 // Nibbles: the field of 16 members, polynomials of degree below 4 over the bits, reduced by x^4 + x + 1.
 ghost use mathlib.Core.Path.{_≡_};
-ghost use Prim.Native.Nat.{ℕ, _<_, _%_};
+ghost use Prim.Native.Nat.{_<_};
+ghost use lib.ListN.{getD};
 ghost use Rattle.nibbles.specs.Nibbles.{codeOf, nibbleOf, nibble-ops};
+ghost use Rattle.nibbles.specs.Tables.{entry, inverses};
 ghost use Rattle.nibbles.specs.declared.Nibble.{Nibble};
 use fields::fault::FieldFault;
 use fields::field::Field;
@@ -76,8 +78,23 @@ fn low_bits(number: u16) -> Nibble
     }
 }
 
+fn product_number(left: u16, right: u16) -> u16
+    requires { ⌜ left < 16 ⌝ ∗ ⌜ right < 16 ⌝ }
+    ensures { λ r. ⌜ r ≡ entry left right ⌝ }
+{
+    PRODUCTS[left as usize][right as usize]
+}
+
+fn inverse_number(number: u16) -> u16
+    requires { ⌜ number < 16 ⌝ }
+    ensures { λ r. ⌜ r ≡ getD inverses number 0 ⌝ }
+{
+    INVERSES[number as usize]
+}
+
 fn number(nibble: Nibble) -> u16
-    ensures { λ r. ⌜ r ≡ codeOf nibble ⌝ }
+    ensures value { λ r. ⌜ r ≡ codeOf nibble ⌝ }
+    ensures below { λ r. ⌜ r < 16 ⌝ }
 {
     nibble as u16
 }
@@ -112,13 +129,13 @@ pub impl Field for Nibble as NibbleField {
     }
 
     fn multiply(self, other: Nibble) -> Nibble {
-        low_bits(PRODUCTS[number(self) as usize][number(other) as usize])
+        low_bits(product_number(number(self), number(other)))
     }
 
     fn inverse(self) -> Option<Nibble> {
         match self {
             Nibble::N0 => None,
-            _ => Some(low_bits(INVERSES[number(self) as usize])),
+            _ => Some(low_bits(inverse_number(number(self)))),
         }
     }
 

@@ -64,6 +64,13 @@ module _ {M : Type 0} (o : RingOps M) (t c : M) (L : RingLaws o) where
       ap₂ pair (solve o L vs ((X ⊗ W) .low) (norm expressions (var 0) (var 1) X ⊠ var 4) refl ∙ e)
       (solve o L vs ((X ⊗ W) .high) 𝟎 refl)
 
+  -- the same, each step by its own equation: q is t, p is t·v, s is u − t·v, n is −v, and d is the norm
+  pub steps-invert : (x : PairMember M) (w q p s n a b d : M) → q ≡ t → p ≡ o .product q (x .high) → s ≡ o .sum (x .low) (o .negative p) → n ≡ o .negative (x .high) → a ≡ o .product s w → b ≡ o .product n w → d ≡ norm o t c x → o .product d w ≡ o .one → pair-ops o t c .product x (pair a b) ≡ pair-ops o t c .one
+  steps-invert x w q p s n a b d is-q is-p is-s is-n is-a is-b is-d e =
+      let low : s ≡ o .sum (x .low) (o .negative (o .product t (x .high))) = is-s ∙ ap (λ (y : M). o .sum (x .low) (o .negative y)) (is-p ∙ ap (λ (y : M). o .product y (x .high)) is-q) in
+      ap (pair-ops o t c .product x) (ap₂ pair (is-a ∙ ap (λ (y : M). o .product y w) low) (is-b ∙ ap (λ (y : M). o .product y w) is-n))
+      ∙ conjugate-inverts x w (ap (λ (y : M). o .product y w) (sym is-d) ∙ e)
+
   -- a zero of the norm would make −u/v a root
   root : (x : PairMember M) (w : M) → o .product (x .high) w ≡ o .one → quadratic o t c (o .negative (o .product (x .low) w)) ≡ o .product (o .product w w) (norm o t c x)
   root x w e =
@@ -112,12 +119,13 @@ module _ {M : Type 0} (o : RingOps M) (t c : M) (F : FieldLaws o) (decide : (x :
       ∙ solve o (F .ring) (t ∷ c ∷ x .low ∷ []) (norm expressions (var 0) (var 1) (pair (var 2) 𝟎)) (var 2 ⊠ var 2) refl
 
   -- the norm is zero only of zero
-  pub norm-zero : (x : PairMember M) → norm o t c x ≡ o .zero → x ≡ pair-ops o t c .zero
-  norm-zero x e =
+  pub norm-zero : (x : PairMember M) (d : M) → d ≡ norm o t c x → d ≡ o .zero → x ≡ pair-ops o t c .zero
+  norm-zero x d is-d zero-d =
+      let e : norm o t c x ≡ o .zero = sym is-d ∙ zero-d in
       let h : x .high ≡ o .zero = high-zero x e in
       ap₂ pair (square-zero (x .low) (sym (low-square x h) ∙ e)) h
 
   pub pair-invertible : Invertible (pair-ops o t c)
   pair-invertible x nz =
-      let w = inverts (norm o t c x) (λ e. nz (norm-zero x e)) in
+      let w = inverts (norm o t c x) (λ e. nz (norm-zero x (norm o t c x) refl e)) in
       (conjugate o t c (F .ring) x (w .0), conjugate-inverts o t c (F .ring) x (w .0) (w .1))

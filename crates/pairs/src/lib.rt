@@ -100,12 +100,13 @@ pub impl<F: Quadratic> Field for Pair<F> as PairField {
     }
 
     fn size() -> u32 {
-        // The promises of t say that this fits.
+        // t promises that the size fits.
         let _ = F::t();
         F::size() * F::size()
     }
 
     fn code(self) -> u16 {
+        // t promises that the code fits.
         let _ = F::t();
         (self.low.code() as u32 + F::size() * self.high.code() as u32) as u16
     }
@@ -118,6 +119,7 @@ pub impl<F: Quadratic> Field for Pair<F> as PairField {
     }
 
     fn kind() -> u8 {
+        // t promises that the kind fits.
         let _ = F::t();
         F::kind() + 2
     }

@@ -4,18 +4,31 @@ mod polynomial;
 
 use card::CardText;
 use card::CardTextDisplay;
+use cards::fault::CardFaultDisplay;
+use cards::fault::CardRefusal;
+use cards::read::read_card;
 use cards::write::write_card;
 use design::draft::Draft;
-use design::fault::DesignFaultDisplay;
+use fields::fault::RefusalText;
+use fields::fault::RefusalTextDisplay;
+use fields::field::Field;
 use history::perform::perform;
 use history::request::AnswerDisplay;
 use history::request::Request;
 use history::request::RequestDisplay;
+use nibbles::Nibble;
+use nibbles::NibbleField;
+use nibbles::quadratic::NibbleQuadratic;
+use pairs::PairField;
 use polynomial::RowText;
 use polynomial::RowTextDisplay;
 use std::error::AnyError;
 use tones::Tone;
 use tones::ToneField;
+use tones::quadratic::ToneQuadratic;
+use towers::Byte;
+use towers::TonePair;
+use towers::product_of_codes;
 
 // The design (s^2, s + 1), by the codes of its nonzero coefficients.
 const DESIGN: [Request; 3] = [
@@ -86,16 +99,69 @@ fn walk(rt: &LibcRuntime) -> Result<(), AnyError> {
     let draft = enter(rt, draft, &mut table, &DESIGN)?;
     println!(rt, "Two slips of the hand are refused, and change nothing:")?;
     let draft = enter(rt, draft, &mut table, &SLIPS)?;
-    let mut buffer = [0u8; 555];
-    match write_card(&draft, &table, &mut buffer) {
-        Ok(length) => {
-            let text = CardText { bytes: &buffer };
-            println!(rt, "The design's card has {length} bytes:")?;
-            print!(rt, "{text}")?;
+    keep(rt, &draft, &table)?;
+    show_products(rt)
+}
+
+// Reads a card and prints what came of it.
+fn show_reading(rt: &LibcRuntime, card: &[u8]) -> Result<(), AnyError> {
+    let mut table = [Tone::T0; 136];
+    match read_card(card, &mut table) {
+        Ok(draft) => {
+            let row = RowText {
+                n: draft.count(),
+                table: &table,
+            };
+            println!(rt, "  granted: the generators are ({row})")?;
         }
-        Err(fault) => println!(rt, "The card was refused: {fault}")?,
+        Err(fault) => {
+            let text = RefusalText { fault: &fault };
+            println!(rt, "  {text}")?;
+        }
     }
     Ok(())
+}
+
+// Writes the design's card, reads it back, and reads a damaged one.
+fn keep(rt: &LibcRuntime, draft: &Draft, table: &[Tone]) -> Result<(), AnyError> {
+    let mut buffer = [0u8; 555];
+    let Ok(length) = write_card(draft, table, &mut buffer) else {
+        return Err("the card was refused".into());
+    };
+    let text = CardText { bytes: &buffer };
+    println!(rt, "The design's card has {length} bytes:")?;
+    print!(rt, "{text}")?;
+    println!(rt, "The card is read back:")?;
+    show_reading(rt, buffer.get(0..length).unwrap_or(&[]))?;
+    println!(
+        rt,
+        "Byte 13 is damaged, from 1 to 0, and the card is read again:"
+    )?;
+    buffer[13] = 0;
+    show_reading(rt, buffer.get(0..length).unwrap_or(&[]))
+}
+
+// Prints the product of two members, by their codes.
+fn show_product<F: Field>(
+    rt: &LibcRuntime,
+    field: &str,
+    left: u32,
+    right: u32,
+) -> Result<(), AnyError> {
+    match product_of_codes::<F>(left, right) {
+        Ok(product) => println!(rt, "  {field}: {left} times {right} is {product}")?,
+        Err(_) => println!(rt, "  {field}: no such members")?,
+    }
+    Ok(())
+}
+
+// The same interface has four implementations.
+fn show_products(rt: &LibcRuntime) -> Result<(), AnyError> {
+    println!(rt, "A product in each field, by codes:")?;
+    show_product::<Tone>(rt, "tones", 5, 25)?;
+    show_product::<Nibble>(rt, "nibbles", 8, 2)?;
+    show_product::<Byte>(rt, "bytes", 16, 16)?;
+    show_product::<TonePair>(rt, "tone pairs", 31, 31)
 }
 
 fn main(rt: LibcRuntime) -> Result<(), AnyError> {

@@ -1,12 +1,11 @@
-use mathlib.Core.List.{[]}
 use mathlib.Core.Path.{_∙_, ap, ap₂}
-use lib.ListN.{getD}
 use Rattle.nibbles.specs.Nibbles.{nibbleOf}
-use Rattle.nibbles.proofs.Nibbles.{products, product-nibble}
+use Rattle.nibbles.specs.Tables.{entry}
+use Rattle.nibbles.proofs.Nibbles.{product-nibble}
 use Rattle.nibbles.proofs.NibbleField.multiply.Needs as need
 
 pub returns : need.returns
 returns c =
     c .low-bits .ensures
-    ∙ ap₂ (λ a b. nibbleOf (getD (getD products a []) b 0)) (c .number .ensures) (c .number-2 .ensures)
+    ∙ ap nibbleOf (c .product-number .ensures ∙ ap₂ entry (c .number .ensures .value) (c .number-2 .ensures .value))
     ∙ product-nibble (c .args .self) (c .args .other)

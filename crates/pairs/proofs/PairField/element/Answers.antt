@@ -22,4 +22,7 @@ pub returns : need.returns
 returns g c =
     let low = c .in-Continue-low .ensures tt in
     let high = c .in-Continue-high .ensures tt in
-    two-digits (g .F·Field .order) (c .size-size .result) (c .args .code) _ _ (c .size-size .ensures .value) (low .0) (low .1) (high .0) (high .1)
+    two-digits (g .F·Field .order) (c .size-size .result) (c .args .code)
+    (g .F·Field .number (g .F·Field .member (c .in-Continue-low .low)))
+    (g .F·Field .number (g .F·Field .member (c .in-Continue-high .high)))
+    (c .size-size .ensures .value) (low .0) (low .1) (high .0) (high .1)

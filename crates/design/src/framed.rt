@@ -1,0 +1,44 @@
+// A framed design: what is known of a design once its frame stands in the caller's table.
+ghost use mathlib.Core.Path.{_≡_};
+ghost use Prim.Native.Nat.{_+_, _*_, _/_, _%_, _^_, _≤_};
+
+mod calls;
+
+// Numbers only, made by a granted call, and moved, never copied.
+#[derive(Drop)]
+pub struct Framed {
+    // The number of generators.
+    n: usize,
+    // The degree of the generators divided by their divisor.
+    degree: usize,
+    // The degree of the divisor.
+    divisor: usize,
+    // The degrees of the columns: that of column j in bits 8 j to 8 j + 7, zero from n on.
+    columns: u64,
+    ghost low: { 2 ≤ n },
+    ghost high: { n ≤ 8 },
+    ghost within: { degree + divisor ≤ 16 },
+}
+
+impl Framed {
+    // How many generators the design has.
+    pub fn generators(&self) -> usize
+        ensures { λ r. ⌜ r ≡ now (self .entry) .n ⌝ }
+    {
+        self.n
+    }
+
+    // The degree of the generators divided by their divisor.
+    pub fn degree(&self) -> usize
+        ensures { λ r. ⌜ r ≡ now (self .entry) .degree ⌝ }
+    {
+        self.degree
+    }
+
+    // The degree of the divisor.
+    pub fn divisor_degree(&self) -> usize
+        ensures { λ r. ⌜ r ≡ now (self .entry) .divisor ⌝ }
+    {
+        self.divisor
+    }
+}

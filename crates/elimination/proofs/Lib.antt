@@ -1,0 +1,5 @@
+pub mod StepMaps
+pub mod Columns
+pub mod Tables
+pub mod Relations
+pub mod Taking
