@@ -16,7 +16,7 @@ use Rattle.algebra.proofs.Bounds as B
 use Rattle.algebra.proofs.Series as S
 use Rattle.algebra.proofs.Sums as Sums
 use Rattle.tables.specs.Places.{at, Within, Apart, Kept, KeptTwo, Cleared, poly-at}
-use Rattle.tables.specs.Polynomials.{DegreeOf}
+use Rattle.polynomials.specs.Polynomials.{DegreeOf}
 use Rattle.tables.proofs.Parts as P
 use Rattle.frames.specs.Common.{GcdOfPair, GcdOfFirst, MonicLike}
 use Rattle.frames.specs.Rows.{generator-in, gcd-in, quotient-in, ZeroOutside, Larger, Highest, DividedByGcd}

@@ -11,7 +11,7 @@ use Rattle.algebra.proofs.Bounds as B
 use Rattle.algebra.proofs.Series as S
 use Rattle.algebra.proofs.Sums as Sums
 use Rattle.tables.specs.Places.{at, Within, Apart, Kept, KeptTwo, poly-at}
-use Rattle.tables.specs.Polynomials.{LeavesRemainder}
+use Rattle.polynomials.specs.Polynomials.{LeavesRemainder}
 use Rattle.tables.proofs.Parts as P
 use Rattle.frames.specs.Common.{SameCommon, GcdOfPair, GcdOfFirst}
 use Rattle.frames.proofs.Common as C

@@ -11,10 +11,10 @@ ghost use Rattle.frames.specs.Common.{GcdOfFirst, MadeMonic};
 ghost use Rattle.frames.specs.Rows.{generator-in, gcd-in, quotient-in, row-in, ZeroOutside, Larger, Highest, DividedByGcd};
 use crate::euclid::euclid;
 use fields::field::Field;
+use polynomials::degree;
+use polynomials::divide_exactly;
 use tables::cells::inverse_at;
 use tables::clear;
-use tables::polynomials::degree;
-use tables::polynomials::divide_exactly;
 use tables::rows::copy_from;
 use tables::rows::scale;
 
@@ -88,13 +88,7 @@ fn larger(d: usize, found: Option<usize>) -> usize
 {
     match found {
         None => d,
-        Some(k) => {
-            if k > d {
-                k
-            } else {
-                d
-            }
-        }
+        Some(k) => { if k > d { k } else { d } }
     }
 }
 
@@ -115,9 +109,7 @@ pub fn row_degree<F: Field>(n: usize, table: &[F], base: usize) -> usize
 // and answers their degrees; absent where every generator is zero.
 pub fn divide_by_gcd<F: Field>(n: usize, generators: &[F], work: &mut [F]) -> Option<Degrees>
     requires { ⌜ n ≤ 8 ⌝ ∗ ⌜ length (now generators) ≡ 136 ⌝ ∗ ⌜ length (now work) ≡ 4521 ⌝ }
-    ensures {
-        λ r. ⌜ Cases r (AllZero ops n (generator-in ops member (now (generators .entry))) × Cleared ops member (now (work .exit))) (λ d. DividedByGcd ops member n (now (generators .entry)) (now (work .exit)) (d .divisor) (d .row)) ⌝
-    }
+    ensures { λ r. ⌜ Cases r (AllZero ops n (generator-in ops member (now (generators .entry))) × Cleared ops member (now (work .exit))) (λ d. DividedByGcd ops member n (now (generators .entry)) (now (work .exit)) (d .divisor) (d .row)) ⌝ }
 {
     clear(work);
     gather(n, generators, work);

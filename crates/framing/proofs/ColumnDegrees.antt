@@ -26,7 +26,7 @@ module _ {F R : Type 0} (o : RingOps R) (member : F → R) (n : ℕ) (frame : Li
         degrees = d ∷ rest .degrees;
         count = ap suc (rest .count) ∙ (omega arith);
         is = ap (λ x. d + 256 * x) (rest .is);
-        column = column
+        column = column;
       }
     where
       column : (k : ℕ) → j + k < n → VectorDegree o n (column-in o member frame (j + k)) (getD (d ∷ rest .degrees) k 0)

@@ -5,7 +5,6 @@ ghost use Rattle.tables.specs.Places.{Cleared};
 use fields::field::Field;
 
 pub mod cells;
-pub mod polynomials;
 pub mod rows;
 
 // Sets every place to zero.

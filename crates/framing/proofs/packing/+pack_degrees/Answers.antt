@@ -26,5 +26,5 @@ returns g t c =
     let h : j < n = omega arith in
     record {
       degrees = degrees-more (f .ops) (f .member) n frame j (c .row-degree-degree .result) (c .pack-degrees .result) h (highest-degree (f .ops) n (c .row-degree-degree .result) (column-in (f .ops) (f .member) frame j) (c .row-degree-degree .ensures .value) (c .pre .nonzero j h)) (c .pack-degrees .ensures .degrees);
-      bound = packed-below n j (c .row-degree-degree .result) (c .pack-degrees .result) h (c .row-degree-degree .ensures .bound) (c .pack-degrees .ensures .bound)
+      bound = packed-below n j (c .row-degree-degree .result) (c .pack-degrees .result) h (c .row-degree-degree .ensures .bound) (c .pack-degrees .ensures .bound);
     }

@@ -3,10 +3,10 @@ use Prim.Native.Nat.{ℕ, suc, _+_}
 use native.Mathlib.Omega.{arith}
 use Rattle.algebra.specs.Series.{series}
 use Rattle.algebra.proofs.Bounds.{below-mono}
 use Rattle.tables.specs.Places.{poly-at}
-use Rattle.tables.proofs.Divisions.{is-field, exactly-divided}
+use Rattle.polynomials.proofs.Divisions.{is-field, exactly-divided}
 use Rattle.tables.proofs.Parts.{poly-at-in, poly-at-below, poly-at-narrow}
-use Rattle.tables.proofs.polynomials.divide_exactly.Needs as need
+use Rattle.polynomials.proofs.divide_exactly.Needs as need
 
 pub inverse-at-inverse-requires : need.inverse-at-inverse-requires
 inverse-at-inverse-requires g c κs =

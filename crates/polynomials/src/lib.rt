@@ -4,13 +4,13 @@ ghost use Prim.Native.Nat.{ℕ, _+_, _-_, _<_, _≤_};
 ghost use lib.ListN.{length};
 ghost use Rattle.algebra.specs.Divisors.{Divides};
 ghost use Rattle.algebra.specs.Series.{series, shift, scale, Below, Degree};
 ghost use Rattle.tables.specs.Places.{at, Apart, Kept, KeptTwo, poly-at};
-ghost use Rattle.tables.specs.Polynomials.{DegreeOf, LeavesRemainder};
-use crate::cells::get;
-use crate::cells::inverse_at;
-use crate::cells::put;
-use crate::rows::add_multiple;
+ghost use Rattle.polynomials.specs.Polynomials.{DegreeOf, LeavesRemainder};
 use fields::field::Field;
+use tables::cells::get;
+use tables::cells::inverse_at;
+use tables::cells::put;
+use tables::rows::add_multiple;
 
 // The degree of a polynomial, absent for zero.
 pub fn degree<F: Field>(table: &[F], base: usize, width: usize) -> Option<usize>

@@ -1,9 +1,9 @@
 use Prim.Native.Nat.{_-_}
 use native.Mathlib.Omega.{arith}
 use Rattle.algebra.proofs.Bounds.{below-mono}
 use Rattle.tables.specs.Places.{poly-at}
-use Rattle.tables.proofs.Divisions.{divided-none, divided-step}
-use Rattle.tables.proofs.polynomials.divide.Needs as need
+use Rattle.polynomials.proofs.Divisions.{divided-none, divided-step}
+use Rattle.polynomials.proofs.divide.Needs as need
 
 pub loop-k-holds : need.loop-k-holds
 loop-k-holds g c = let f = g .F·Field in divided-none (f .ops) (g .F·Field·met .laws .ring) (f .member) (c .args .base) (c .args .width) (c .args .divisor) (c .args .e) (c .args .quotient) (c .args .table .now) (c .pre .cleared)

@@ -11,10 +11,10 @@ use Rattle.algebra.proofs.Division.{division-unique}
 use Rattle.algebra.proofs.Fields.{numbering-decides}
 use Rattle.algebra.proofs.Sums as Sums
 use Rattle.algebra.proofs.Series.{series-laws}
 use Rattle.tables.specs.Places.{at, Within, Apart, Kept, KeptTwo, poly-at}
-use Rattle.tables.specs.Polynomials.{LeavesRemainder}
-use Rattle.tables.proofs.LongDivision as Long
+use Rattle.polynomials.specs.Polynomials.{LeavesRemainder}
+use Rattle.polynomials.proofs.LongDivision as Long
 use Rattle.tables.proofs.Parts as P
 
 module _ {F R : Type 0} (o : RingOps R) (L : RingLaws o) (member : F → R) where
   -- the top coefficient of what is left is taken away
@@ -165,9 +165,9 @@ module _ {F R : Type 0} (o : RingOps R) (L : RingLaws o) (member : F → R) wher
       let q-is : poly-at o member xs left (k + 1) ≡ series o .sum p (shift o k (constant o x)) =
       P.poly-at-more o member L xs left k ∙ ap (λ t. series o .sum p (shift o k (constant o t))) (sym x-was) in (
         λ n l.
-          added n (omega arith)
-          ∙ ap₂ (λ s t. series o .sum s (shift o k (scale o x t))) (inv .0 n l) (P.poly-at-kept o member xs ys base (width + count - 1) right count (inv .1) apart-right)
-          ∙ Long.product-more o L (poly-at o member xs base n) p (poly-at o member xs left (k + 1)) f k x q-is,
+            added n (omega arith)
+            ∙ ap₂ (λ s t. series o .sum s (shift o k (scale o x t))) (inv .0 n l) (P.poly-at-kept o member xs ys base (width + count - 1) right count (inv .1) apart-right)
+            ∙ Long.product-more o L (poly-at o member xs base n) p (poly-at o member xs left (k + 1)) f k x q-is,
         λ i n. keep i (λ w. n (omega arith, omega arith)) ∙ inv .1 i n,
       )
 

@@ -1,8 +1,8 @@
 use mathlib.Core.Path.{_≡_, subst}
 use Prim.Native.Nat.{ℕ}
 use native.Mathlib.Omega.{arith}
-use Rattle.tables.proofs.Divisions.{Multiplied, multiplied-none, multiplied-step}
-use Rattle.tables.proofs.polynomials.multiply_into.Needs as need
+use Rattle.polynomials.proofs.Divisions.{Multiplied, multiplied-none, multiplied-step}
+use Rattle.polynomials.proofs.multiply_into.Needs as need
 
 pub loop-k-holds : need.loop-k-holds
 loop-k-holds g c = let f = g .F·Field in multiplied-none (f .ops) (g .F·Field·met .laws .ring) (f .member) (c .args .base) (c .args .left) (c .args .left-width) (c .args .right) (c .args .right-width) (c .args .table .now)

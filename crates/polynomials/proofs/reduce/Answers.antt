@@ -1,7 +1,7 @@
 use Prim.Native.Nat.{_-_}
 use native.Mathlib.Omega.{arith}
-use Rattle.tables.proofs.Divisions.{reduced-none, reduced-step, reduced-all}
-use Rattle.tables.proofs.polynomials.reduce.Needs as need
+use Rattle.polynomials.proofs.Divisions.{reduced-none, reduced-step, reduced-all}
+use Rattle.polynomials.proofs.reduce.Needs as need
 
 pub loop-k-holds : need.loop-k-holds
 loop-k-holds g c = let f = g .F·Field in reduced-none (f .ops) (g .F·Field·met .laws .ring) (f .member) (c .args .base) (c .args .width) (c .args .divisor) (c .args .e) (c .args .table .now)

@@ -2,9 +2,9 @@ use mathlib.Core.Path.{_≡_, sym, _∙_}
 use Prim.Native.Nat.{_<_, _-_, suc}
 use native.Mathlib.Omega.{arith}
 use Rattle.algebra.proofs.Bounds.{below-mono, below-top}
 use Rattle.tables.specs.Places.{poly-at}
 use Rattle.tables.proofs.Parts.{poly-at-in, poly-at-below}
-use Rattle.tables.proofs.polynomials.degree.Needs as need
+use Rattle.polynomials.proofs.degree.Needs as need
 
 pub loop-k-holds : need.loop-k-holds
 loop-k-holds g c = let f = g .F·Field in poly-at-below (f .ops) (f .member) (c .args .table .now) (c .args .base) (c .args .width)
