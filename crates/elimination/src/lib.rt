@@ -3,6 +3,7 @@ ghost use mathlib.Core.Path.{_≡_};
 ghost use Prim.Native.Nat.{ℕ, _+_, _*_, _<_, _≤_};
 ghost use lib.ListN.{length};
 ghost use Rattle.tables.specs.Places.{at};
+ghost use Rattle.elimination.specs.Echelon.{Echelon, Relations};
 ghost use Rattle.elimination.specs.Steps.{column-at, row-at, AreSteps, Takes};
 use crate::steps::find_pivot;
 use crate::steps::record_step;
@@ -57,4 +58,27 @@ pub fn take_column_of<F: Field>(
         pivots,
         &mut matrix[rows * q..rows * q + rows],
     )
+}
+
+// Reduces every column of a matrix, whose columns stand one behind the other. Answers the rank, and writes the places of the pivotal columns.
+pub fn eliminate<F: Field>(
+    rows: usize,
+    columns: usize,
+    matrix: &mut [F],
+    steps: &mut [F],
+    pivots: &mut [usize],
+    places: &mut [usize],
+) -> usize
+    requires room { ⌜ rows * columns ≤ length (now matrix) ⌝ ∗ ⌜ rows * rows ≤ length (now steps) ⌝ ∗ ⌜ rows ≤ length (now pivots) ⌝ ∗ ⌜ rows ≤ length (now places) ⌝ }
+    ensures echelon { λ rank. ⌜ Echelon ops rows (column-at ops member rows (now (matrix .entry))) columns rank (row-at (now (places .exit))) ⌝ }
+    ensures relations { λ rank. ⌜ Relations ops rows (column-at ops member rows (now (matrix .entry))) (column-at ops member rows (now (matrix .exit))) columns rank (row-at (now (places .exit))) ⌝ }
+{
+    let mut rank = 0;
+    for q in 0..columns {
+        if take_column_of(rows, rank, steps, pivots, matrix, q) {
+            places[rank] = q;
+            rank += 1;
+        }
+    }
+    rank
 }
