@@ -1,4 +1,5 @@
--- The echelon after one column more. Main results: echelon-pivotal, echelon-spanned, echelon-skipped, relations-pivotal, relations-spanned.
+-- Columns taken one after the other. Main results: eliminated-none, eliminated-pivotal, eliminated-spanned, eliminated-skipped (what is known after no
+-- column, and after one column more that is pivotal, is not, or is known not to be), sum-of-column, relations-pivotal, relations-spanned.
 use mathlib.Core.List.{[], _∷_}
 use mathlib.Core.Path.{_≡_, refl, sym, ap, ap₂, _∙_, subst}
 use Prim.Native.Nat.{ℕ, zero, suc, _≤_, _<_, zero-le, suc-le-suc}
@@ -11,9 +12,11 @@ use Rattle.algebra.specs.Independence.{All, Spanned, Independent}
 use Rattle.algebra.proofs.Sums as Sums
 use Rattle.algebra.proofs.Spans as Spans
 use Rattle.algebra.proofs.Exchange as Exchange
-use Rattle.elimination.specs.Steps.{write, IsSum}
-use Rattle.elimination.specs.Echelon.{NoPlace, Echelon, Relations}
+use mathlib.Core.Bool.{true, false}
+use Rattle.elimination.specs.Steps.{write, AreSteps, Reduces, Takes, IsSum}
+use Rattle.elimination.specs.Echelon.{NoPlace, Echelon, Relations, Eliminated}
 use Rattle.elimination.proofs.StepMaps.{write-same, write-other}
+use Rattle.elimination.proofs.Relations as R
 
 module _ {M : Type 0} (o : RingOps M) (L : RingLaws o) where
   open RingOps o using (zero as O, one as I, sum as _+_, negative as -_, product as _·_)
@@ -101,6 +104,44 @@ module _ {M : Type 0} (o : RingOps M) (L : RingLaws o) where
             (λ j h. span-trans (suc rank) rank rows (λ t. W (next t)) (λ t. W (place t)) (W j) (λ t l. subst (λ i. Spanned o All (suc rank) rows (λ t. W (next t)) (W i)) (old t l) (span-member (suc rank) rows (λ t. W (next t)) t (omega arith))) (X .spans j h))
             (subst (λ i. Spanned o All (suc rank) rows (λ t. W (next t)) (W i)) new (span-member (suc rank) rows (λ t. W (next t)) rank (le-refl (suc rank))));
       }
+
+    pub eliminated-none : (e : ℕ → ℕ → M) (p place : ℕ → ℕ) → Eliminated o rows W 0 0 e p place
+    eliminated-none e p place = record { are = λ t h. absurd (not-suc-le-zero h); turns = λ t h. absurd (not-suc-le-zero h); echelon = echelon-none place }
+
+    module _ (q rank : ℕ) (e : ℕ → ℕ → M) (p place : ℕ → ℕ) (X : Eliminated o rows W q rank e p place) where
+      -- a column that is a sum of multiples of those before it need not be taken
+      pub eliminated-skipped : Spanned o All q rows W (W q) → Eliminated o rows W (suc q) rank e p place
+      eliminated-skipped s = record { are = X .are; turns = X .turns; echelon = echelon-skipped q rank place (X .echelon) s }
+
+      -- column q was taken as c
+      module _ (c : ℕ → M) (is : (r : ℕ) → r < rows → c r ≡ W q r) (f : ℕ → ℕ → M) (p′ : ℕ → ℕ) (E : ℕ → M) where
+        pub sum-of-column : Takes o rows rank e p c f p′ E false → IsSum o rows rank (λ t. W (place t)) (W q) E
+        sum-of-column T = let s = T .judged (λ t. W (place t)) (X .turns) in record { is = λ r l. sym (is r l) ∙ s .is r l; zeros = s .zeros }
+
+        pub eliminated-spanned : Takes o rows rank e p c f p′ E false → Eliminated o rows W (suc q) rank f p′ place
+        eliminated-spanned T = record {
+          are = T .are;
+          turns = T .reduces (λ t. W (place t)) (X .turns);
+          echelon = echelon-spanned q rank place (X .echelon) (record { factor = E; inside = λ j l. tt; is = sum-of-column T .is });
+        }
+
+        -- next has the place of the column behind those of the pivotal columns before it
+        module _ (next : ℕ → ℕ) (old : (t : ℕ) → t < rank → next t ≡ place t) (new : next rank ≡ q) where
+          columns-next : (t r : ℕ) → t < suc rank → r < rows → W (next t) r ≡ write rank c (λ t. W (place t)) t r
+          columns-next t r h l = elim (ℕ-discrete t rank) [
+            | yes d ↦ ap (λ i. W (next i) r) d ∙ ap (λ i. W i r) new ∙ sym (is r l) ∙ sym (ap (λ i. write rank c (λ t. W (place t)) i r) d ∙ ap (λ v. v r) (write-same rank c (λ t. W (place t))))
+            | no n ↦ ap (λ i. W i r) (old t (omega arith)) ∙ sym (ap (λ v. v r) (write-other rank c (λ t. W (place t)) t n))
+          ]
+
+          pub eliminated-pivotal : Takes o rows rank e p c f p′ E true → Eliminated o rows W (suc q) (suc rank) f p′ next
+          eliminated-pivotal T =
+              let turns = R.reduces-ext o L rows (suc rank) f p′ (write rank c (λ t. W (place t))) (λ t. W (next t)) columns-next (T .reduces (λ t. W (place t)) (X .turns)) in
+              record {
+                are = T .are;
+                turns = turns;
+                echelon = echelon-pivotal q rank place (X .echelon) next old new (T .bound) (R.independent-of-steps o L rows (suc rank) f p′ (λ t. W (next t)) turns)
+                    (λ s. T .judged (λ t. W (place t)) (X .turns) (record { factor = s .factor; inside = s .inside; is = λ r l. is r l ∙ s .is r l }));
+              }
 
     pub relations-none : (E : ℕ → ℕ → M) (place : ℕ → ℕ) → Relations o rows W E 0 0 place
     relations-none E place = record { is = λ j h. absurd (not-suc-le-zero h); zeros = λ j t h. absurd (not-suc-le-zero h) }

@@ -11,7 +11,7 @@ use Rattle.algebra.specs.Independence.{All, Spanned}
 use Rattle.tables.specs.Places.{at}
 use Rattle.tables.proofs.Places.{at-past}
 use Rattle.elimination.specs.Steps.{write, front, reduced, column-at, row-at, AreSteps, Reduces, IsPivot, IsSum}
-use Rattle.elimination.proofs.Tables.{factors-same}
+use Rattle.elimination.proofs.Tables.{columns-same}
 use Rattle.elimination.proofs.Relations as Relations
 
 module _ {F M : Type 0} (o : RingOps M) (m : F → M) (L : FieldLaws o) (rows rank : ℕ) (steps : List F) (pivots : List ℕ) (column now : List F) (long : length column ≡ rows) (is : at o m now ≡ reduced o (column-at o m rows steps) (row-at pivots) rank (at o m column)) where
@@ -37,9 +37,9 @@ module _ {F M : Type 0} (o : RingOps M) (m : F → M) (L : FieldLaws o) (rows ra
       row-old t h = getD-set-other pivots rank t q 0 (λ e. omega arith)
 
       pub taken-steps : AreSteps o rows rank (column-at o m rows steps) (row-at pivots) → AreSteps o rows (suc rank) (column-at o m rows after) (row-at (set pivots rank q))
-      taken-steps = Relations.steps-more o (L .ring) rows rank (column-at o m rows steps) (column-at o m rows after) (row-at pivots) (row-at (set pivots rank q)) (factors-same o m rows rank steps after others) row-old (at o m now) (m x)
+      taken-steps = Relations.steps-more o (L .ring) rows rank (column-at o m rows steps) (column-at o m rows after) (row-at pivots) (row-at (set pivots rank q)) (columns-same o m rows rank steps after others) row-old (at o m now) (m x)
           (subst (λ k. IsPivot o rows rank (at o m now) k (m x)) (sym row-new) pivot) (here ∙ ap (λ k. write k (m x) (at o m now)) (sym row-new))
 
       pub taken-reduces : (V : ℕ → ℕ → M) → Reduces o rows rank (column-at o m rows steps) (row-at pivots) V → Reduces o rows (suc rank) (column-at o m rows after) (row-at (set pivots rank q)) (write rank (at o m column) V)
-      taken-reduces V turns = Relations.reduces-more o (L .ring) rows rank (column-at o m rows steps) (column-at o m rows after) (row-at pivots) (row-at (set pivots rank q)) (factors-same o m rows rank steps after others) row-old (at o m now) (m x)
+      taken-reduces V turns = Relations.reduces-more o (L .ring) rows rank (column-at o m rows steps) (column-at o m rows after) (row-at pivots) (row-at (set pivots rank q)) (columns-same o m rows rank steps after others) row-old (at o m now) (m x)
           (subst (λ k. IsPivot o rows rank (at o m now) k (m x)) (sym row-new) pivot) (here ∙ ap (λ k. write k (m x) (at o m now)) (sym row-new)) V turns (at o m column) behind (sym is)
