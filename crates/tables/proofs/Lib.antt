@@ -1,1 +1,4 @@
+pub mod Divisions
+pub mod LongDivision
+pub mod Parts
 pub mod Places

@@ -4,6 +4,10 @@ ghost use Prim.Native.Nat.{ℕ};
 ghost use Rattle.tables.specs.Places.{Cleared};
 use fields::field::Field;
 
+pub mod cells;
+pub mod polynomials;
+pub mod rows;
+
 // Sets every place to zero.
 pub fn clear<F: Field>(table: &mut [F])
     ensures { λ _. ⌜ Cleared ops member (now (table .exit)) ⌝ }

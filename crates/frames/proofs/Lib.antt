@@ -1,0 +1,2 @@
+pub mod Common
+pub mod Steps
