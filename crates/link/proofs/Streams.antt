@@ -1,6 +1,6 @@
 -- Places of streams in a block. Main results: place-within, place-past and stream-past (which places are in the block).
 use mathlib.Core.List.{List}
-use mathlib.Core.Path.{_≡_, ap, _∙_, fun-ext}
+use mathlib.Core.Path.{_≡_, sym, ap, ap₂, _∙_, fun-ext}
 use Prim.Native.Nat.{ℕ, suc, _+_, _-_, _*_, _≤_, _<_}
 use native.Mathlib.Nat.{mul-le-mul, mul-le-mul-left, mul-suc}
 use native.Mathlib.Omega.{arith}
@@ -40,3 +40,7 @@ pub dot-streams : {F R : Type 0} (o : RingOps R) (member : F → R) (count n : �
 dot-streams o member count n block u k e h =
     ap (λ x. dot (series o) x (stream o member x block) u k) e
     ∙ ap (λ x. dot (series o) x (stream o member n block) u k) (let s : n ≡ suc (n - 1) = omega arith in s)
+
+-- a block that holds a message is as long as all its times
+pub times-of : (long n count q d degree symbols : ℕ) → n ≡ count → d ≡ degree → symbols ≡ q - d → 1 ≤ symbols → long ≡ count * (symbols + degree) → long ≡ n * q
+times-of long n count q d degree symbols e f s h is = is ∙ ap₂ (λ a b. a * b) (sym e) (let t : symbols + degree ≡ q = omega arith in t)

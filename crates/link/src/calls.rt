@@ -3,7 +3,7 @@ ghost use mathlib.Core.Path.{_≡_};
 ghost use Prim.Native.Nat.{ℕ, _+_, _-_, _*_, _<_, _≤_};
 ghost use lib.ListN.{length};
 ghost use Rattle.algebra.specs.Link.{Clean, inverted};
-ghost use Rattle.algebra.specs.Series.{series};
+ghost use Rattle.algebra.specs.Series.{dot, series};
 ghost use Rattle.fields.specs.Questions.{first-no};
 ghost use Rattle.std.specs.Results.{errPart, Cases};
 ghost use Rattle.tables.specs.Places.{at};
@@ -103,4 +103,36 @@ pub fn invert<F: Field>(
         put(message, k, symbol);
     }
     Ok(())
+}
+
+// Whether the sums of all check columns have no s^t.
+fn clean_at<F: Field>(block: &[F], n: usize, times: usize, frame: &[F], t: usize) -> bool
+    requires block { ⌜ length (now block) ≡ n * times ⌝ ∗ ⌜ n ≤ 8 ⌝ }
+    requires frame { ⌜ length (now frame) ≡ 1105 ⌝ }
+    requires time { ⌜ t < 8192 ⌝ }
+    ensures { λ r. ⌜ Tells ((j : ℕ) → 1 ≤ j → j < n → dot (series ops) n (stream ops member n (now (block .entry))) (column ops member (now (frame .entry)) j) t ≡ ops .zero) r ⌝ }
+{
+    for j in 1..n {
+        if !combination(block, n, times, frame, 136 * j, t).same(F::zero()) {
+            return false;
+        }
+    }
+    true
+}
+
+// Whether a block is clean: for each check column the sum over the streams of stream i times component i is zero.
+pub fn check<F: Field>(framed: &Framed, frame: &[F], block: &[F]) -> Result<bool, LinkFault>
+    ensures answer { λ r. ⌜ errPart r ≡ first-no (link-questions 1105 (length (now (frame .entry))) (now (framed .entry) .n) (now (framed .entry) .degree) (now (framed .entry) .divisor) (symbols-in (now (framed .entry) .n) (now (framed .entry) .degree) (length (now (block .entry)))) (length (now (block .entry)))) ⌝ }
+    ensures clean { λ r. ⌜ Cases r (Tells (Clean ops (now (framed .entry) .n - 1) (column ops member (now (frame .entry))) (stream ops member (now (framed .entry) .n) (now (block .entry))))) (λ _. Unit {0}) ⌝ }
+{
+    let n = framed.generators();
+    let times = block.len() / n;
+    let symbols = times.saturating_sub(framed.degree());
+    ask(framed, FRAME, frame.len(), symbols, block.len())?;
+    for t in 0..times + 16 {
+        if !clean_at(block, n, times, frame, t) {
+            return Ok(false);
+        }
+    }
+    Ok(true)
 }
