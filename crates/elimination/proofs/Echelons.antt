@@ -1,6 +1,8 @@
 -- Columns taken one after the other. Main results: eliminated-none, eliminated-pivotal, eliminated-spanned, eliminated-skipped (what is known after no
--- column, and after one column more that is pivotal, is not, or is known not to be), sum-of-column, relations-pivotal, relations-spanned.
+-- column, and after one column more that is pivotal, is not, or is known not to be), sum-of-column,
+-- place-or-none, relations-pivotal, relations-spanned.
 use mathlib.Core.List.{[], _∷_}
+use mathlib.Core.Logic.{_⊎_, inl, inr}
 use mathlib.Core.Path.{_≡_, refl, sym, ap, ap₂, _∙_, subst}
 use Prim.Native.Nat.{ℕ, zero, suc, _≤_, _<_, zero-le, suc-le-suc}
 use native.Mathlib.Decide.{ℕ-discrete, decLt}
@@ -17,6 +19,16 @@ use Rattle.elimination.specs.Steps.{write, AreSteps, Reduces, Takes, IsSum}
 use Rattle.elimination.specs.Echelon.{NoPlace, Echelon, Relations, Eliminated}
 use Rattle.elimination.proofs.StepMaps.{write-same, write-other}
 use Rattle.elimination.proofs.Relations as R
+
+-- whether j is one of the places
+pub place-or-none : (rank : ℕ) (place : ℕ → ℕ) (j : ℕ) → ((t : ℕ) × (t < rank) × (place t ≡ j)) ⊎ NoPlace rank place j
+place-or-none zero place j = inr (λ t h. absurd (not-suc-le-zero h))
+place-or-none (suc rank) place j = go (ℕ-discrete (place rank) j) (place-or-none rank place j)
+  where
+    go : Dec (place rank ≡ j) → ((t : ℕ) × (t < rank) × (place t ≡ j)) ⊎ NoPlace rank place j → ((t : ℕ) × (t < suc rank) × (place t ≡ j)) ⊎ NoPlace (suc rank) place j
+    go (yes e) r = inl (rank, le-refl (suc rank), e)
+    go (no n) (inl (t, h, e)) = inl (t, omega arith, e)
+    go (no n) (inr off) = inr (λ t h e. elim (ℕ-discrete t rank) [ yes d ↦ n (ap place (sym d) ∙ e) | no k ↦ off t (omega arith) e ])
 
 module _ {M : Type 0} (o : RingOps M) (L : RingLaws o) where
   open RingOps o using (zero as O, one as I, sum as _+_, negative as -_, product as _·_)
@@ -106,12 +118,12 @@ module _ {M : Type 0} (o : RingOps M) (L : RingLaws o) where
       }
 
     pub eliminated-none : (e : ℕ → ℕ → M) (p place : ℕ → ℕ) → Eliminated o rows W 0 0 e p place
-    eliminated-none e p place = record { are = λ t h. absurd (not-suc-le-zero h); turns = λ t h. absurd (not-suc-le-zero h); echelon = echelon-none place }
+    eliminated-none e p place = record { valid = λ t h. absurd (not-suc-le-zero h); turns = λ t h. absurd (not-suc-le-zero h); echelon = echelon-none place }
 
     module _ (q rank : ℕ) (e : ℕ → ℕ → M) (p place : ℕ → ℕ) (X : Eliminated o rows W q rank e p place) where
       -- a column that is a sum of multiples of those before it need not be taken
       pub eliminated-skipped : Spanned o All q rows W (W q) → Eliminated o rows W (suc q) rank e p place
-      eliminated-skipped s = record { are = X .are; turns = X .turns; echelon = echelon-skipped q rank place (X .echelon) s }
+      eliminated-skipped s = record { valid = X .valid; turns = X .turns; echelon = echelon-skipped q rank place (X .echelon) s }
 
       -- column q was taken as c
       module _ (c : ℕ → M) (is : (r : ℕ) → r < rows → c r ≡ W q r) (f : ℕ → ℕ → M) (p′ : ℕ → ℕ) (E : ℕ → M) where
@@ -120,7 +132,7 @@ module _ {M : Type 0} (o : RingOps M) (L : RingLaws o) where
 
         pub eliminated-spanned : Takes o rows rank e p c f p′ E false → Eliminated o rows W (suc q) rank f p′ place
         eliminated-spanned T = record {
-          are = T .are;
+          valid = T .valid;
           turns = T .reduces (λ t. W (place t)) (X .turns);
           echelon = echelon-spanned q rank place (X .echelon) (record { factor = E; inside = λ j l. tt; is = sum-of-column T .is });
         }
@@ -137,7 +149,7 @@ module _ {M : Type 0} (o : RingOps M) (L : RingLaws o) where
           eliminated-pivotal T =
               let turns = R.reduces-ext o L rows (suc rank) f p′ (write rank c (λ t. W (place t))) (λ t. W (next t)) columns-next (T .reduces (λ t. W (place t)) (X .turns)) in
               record {
-                are = T .are;
+                valid = T .valid;
                 turns = turns;
                 echelon = echelon-pivotal q rank place (X .echelon) next old new (T .bound) (R.independent-of-steps o L rows (suc rank) f p′ (λ t. W (next t)) turns)
                     (λ s. T .judged (λ t. W (place t)) (X .turns) (record { factor = s .factor; inside = s .inside; is = λ r l. is r l ∙ s .is r l }));

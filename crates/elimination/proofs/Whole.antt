@@ -10,15 +10,15 @@ use lib.ListN.{length, set}
 use lib.Seq.{getD-set-same, getD-set-other}
 use Rattle.algebra.specs.Rings.{RingOps, RingLaws}
 use Rattle.tables.specs.Places.{at}
-use Rattle.elimination.specs.Steps.{column-at, row-at, Takes}
+use Rattle.elimination.specs.Steps.{column-at, entry-at, Takes}
 use Rattle.elimination.specs.Echelon.{Relations, Eliminated}
 use Rattle.elimination.proofs.Tables.{front-ext, columns-same}
 use Rattle.elimination.proofs.Echelons as E
 
 -- after q columns of the matrix start
 pub record Progress {F M : Type 0} (o : RingOps M) (m : F → M) (rows : ℕ) (start : List F) (q rank : ℕ) (steps : List F) (pivots places : List ℕ) (matrix : List F) : Type 0 where
-  pub eliminated : Eliminated o rows (column-at o m rows start) q rank (column-at o m rows steps) (row-at pivots) (row-at places)
-  pub relations : Relations o rows (column-at o m rows start) (column-at o m rows matrix) q rank (row-at places)
+  pub eliminated : Eliminated o rows (column-at o m rows start) q rank (column-at o m rows steps) (entry-at pivots) (entry-at places)
+  pub relations : Relations o rows (column-at o m rows start) (column-at o m rows matrix) q rank (entry-at places)
   pub left : (k : ℕ) → rows * q ≤ k → at o m matrix k ≡ at o m start k
 
 module _ {F M : Type 0} (o : RingOps M) (m : F → M) (L : RingLaws o) (rows : ℕ) (start : List F) where
@@ -27,8 +27,8 @@ module _ {F M : Type 0} (o : RingOps M) (m : F → M) (L : RingLaws o) (rows : �
 
   pub progress-none : (steps : List F) (pivots places : List ℕ) → Progress o m rows start 0 0 steps pivots places start
   progress-none steps pivots places = record {
-    eliminated = E.eliminated-none o L rows W (column-at o m rows steps) (row-at pivots) (row-at places);
-    relations = E.relations-none o L rows W W (row-at places);
+    eliminated = E.eliminated-none o L rows W (column-at o m rows steps) (entry-at pivots) (entry-at places);
+    relations = E.relations-none o L rows W W (entry-at places);
     left = λ k h. refl;
   }
 
@@ -44,23 +44,23 @@ module _ {F M : Type 0} (o : RingOps M) (m : F → M) (L : RingLaws o) (rows : �
     left-more : (k : ℕ) → rows * suc q ≤ k → at o m now k ≡ at o m start k
     left-more k h = let l : rows * q + rows ≤ k = omega (arith, mul-suc rows q) in behind k l ∙ X .left k (omega arith)
 
-    pub progress-spanned : Takes o rows rank (column-at o m rows steps) (row-at pivots) (column-at o m rows matrix q) (column-at o m rows after) (row-at rows-after) (column-at o m rows now q) false → Progress o m rows start (q + 1) rank after rows-after places now
+    pub progress-spanned : Takes o rows rank (column-at o m rows steps) (entry-at pivots) (column-at o m rows matrix q) (column-at o m rows after) (entry-at rows-after) (column-at o m rows now q) false → Progress o m rows start (q + 1) rank after rows-after places now
     progress-spanned T = rw (add-one q) (record {
-      eliminated = E.eliminated-spanned o L rows W q rank (column-at o m rows steps) (row-at pivots) (row-at places) (X .eliminated) (column-at o m rows matrix q) column-new (column-at o m rows after) (row-at rows-after) (column-at o m rows now q) T;
-      relations = E.relations-spanned o L rows W (column-at o m rows matrix) (column-at o m rows now) q rank (row-at places) (X .eliminated .echelon) columns-old (X .relations)
-          (E.sum-of-column o L rows W q rank (column-at o m rows steps) (row-at pivots) (row-at places) (X .eliminated) (column-at o m rows matrix q) column-new (column-at o m rows after) (row-at rows-after) (column-at o m rows now q) T);
+      eliminated = E.eliminated-spanned o L rows W q rank (column-at o m rows steps) (entry-at pivots) (entry-at places) (X .eliminated) (column-at o m rows matrix q) column-new (column-at o m rows after) (entry-at rows-after) (column-at o m rows now q) T;
+      relations = E.relations-spanned o L rows W (column-at o m rows matrix) (column-at o m rows now) q rank (entry-at places) (X .eliminated .echelon) columns-old (X .relations)
+          (E.sum-of-column o L rows W q rank (column-at o m rows steps) (entry-at pivots) (entry-at places) (X .eliminated) (column-at o m rows matrix q) column-new (column-at o m rows after) (entry-at rows-after) (column-at o m rows now q) T);
       left = left-more;
     })
 
-    pub progress-pivotal : rank < length places → Takes o rows rank (column-at o m rows steps) (row-at pivots) (column-at o m rows matrix q) (column-at o m rows after) (row-at rows-after) (column-at o m rows now q) true → Progress o m rows start (q + 1) (rank + 1) after rows-after (set places rank q) now
+    pub progress-pivotal : rank < length places → Takes o rows rank (column-at o m rows steps) (entry-at pivots) (column-at o m rows matrix q) (column-at o m rows after) (entry-at rows-after) (column-at o m rows now q) true → Progress o m rows start (q + 1) (rank + 1) after rows-after (set places rank q) now
     progress-pivotal room T = rw (add-one q, add-one rank) (record {
-      eliminated = E.eliminated-pivotal o L rows W q rank (column-at o m rows steps) (row-at pivots) (row-at places) (X .eliminated) (column-at o m rows matrix q) column-new (column-at o m rows after) (row-at rows-after) (column-at o m rows now q) (row-at (set places rank q)) old new T;
-      relations = E.relations-pivotal o L rows W (column-at o m rows matrix) (column-at o m rows now) q rank (row-at places) (X .eliminated .echelon) columns-old (X .relations) (row-at (set places rank q)) old new;
+      eliminated = E.eliminated-pivotal o L rows W q rank (column-at o m rows steps) (entry-at pivots) (entry-at places) (X .eliminated) (column-at o m rows matrix q) column-new (column-at o m rows after) (entry-at rows-after) (column-at o m rows now q) (entry-at (set places rank q)) old new T;
+      relations = E.relations-pivotal o L rows W (column-at o m rows matrix) (column-at o m rows now) q rank (entry-at places) (X .eliminated .echelon) columns-old (X .relations) (entry-at (set places rank q)) old new;
       left = left-more;
     })
       where
-        new : row-at (set places rank q) rank ≡ q
+        new : entry-at (set places rank q) rank ≡ q
         new = getD-set-same places rank q 0 room
 
-        old : (t : ℕ) → t < rank → row-at (set places rank q) t ≡ row-at places t
+        old : (t : ℕ) → t < rank → entry-at (set places rank q) t ≡ entry-at places t
         old t h = getD-set-other places rank t q 0 (λ e. omega arith)

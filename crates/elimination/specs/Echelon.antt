@@ -29,6 +29,6 @@ pub record Relations {M : Type 0} (o : RingOps M) (rows : ℕ) (W E : ℕ → �
 
 -- the steps e, p have been made of the first q columns, of which the pivotal ones are turned into the unit vectors
 pub record Eliminated {M : Type 0} (o : RingOps M) (rows : ℕ) (W : ℕ → ℕ → M) (q rank : ℕ) (e : ℕ → ℕ → M) (p place : ℕ → ℕ) : Type 0 where
-  pub are : AreSteps o rows rank e p
+  pub valid : AreSteps o rows rank e p
   pub turns : Reduces o rows rank e p (λ t. W (place t))
   pub echelon : Echelon o rows W q rank place
