@@ -13,7 +13,7 @@ use Rattle.algebra.specs.Series.{total}
 use Rattle.algebra.specs.Independence.{All, Spanned, Independent}
 use Rattle.algebra.proofs.Sums as Sums
 use Rattle.algebra.proofs.Spans as Spans
-use Rattle.algebra.proofs.Exchange as Exchange
+use Rattle.algebra.proofs.Rows as Rows
 use mathlib.Core.Bool.{true, false}
 use Rattle.elimination.specs.Steps.{write, AreSteps, Reduces, Takes, IsSum}
 use Rattle.elimination.specs.Echelon.{NoPlace, Echelon, Relations, Eliminated}
@@ -39,7 +39,7 @@ module _ {M : Type 0} (o : RingOps M) (L : RingLaws o) where
   -- each of the vectors is a sum of multiples of them
   pub span-member : (t w : ℕ) (v : ℕ → ℕ → M) (j : ℕ) → j < t → Spanned o All t w v (v j)
   span-member t w v j h = record {
-    factor = Exchange.slot j I (λ i. O);
+    factor = Rows.slot j I (λ i. O);
     inside = λ i l. tt;
     is = λ k l. sym (Spans.total-slot o L t j I (λ i. v i k) h ∙ Sums.one-product o L (v j k));
   }
