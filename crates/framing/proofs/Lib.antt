@@ -1,1 +1,2 @@
 pub mod ColumnDegrees
+pub mod Whole

@@ -1,0 +1,3 @@
+pub mod Cleanness
+pub mod Streams
+pub mod Terms
