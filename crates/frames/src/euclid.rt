@@ -1,6 +1,6 @@
 // Euclid's algorithm on two polynomials in a table.
 ghost use mathlib.Core.Path.{_≡_};
-ghost use Prim.Native.Nat.{ℕ, _+_, _<_, _≤_};
+ghost use Prim.Native.Nat.{_+_, _<_, _≤_};
 ghost use lib.ListN.{length};
 ghost use Rattle.algebra.specs.Series.{series, Below, Degree};
 ghost use Rattle.tables.specs.Places.{Apart, KeptTwo, poly-at};

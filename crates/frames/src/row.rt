@@ -1,5 +1,4 @@
 // The monic greatest common divisor of a row of generators, and the row divided by it, in a work table.
-ghost use mathlib.Core.Logic.{_⊎_};
 ghost use mathlib.Core.Path.{_≡_};
 ghost use Prim.Native.Nat.{ℕ, _+_, _*_, _<_, _≤_};
 ghost use lib.ListN.{length};

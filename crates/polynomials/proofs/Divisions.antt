@@ -11,7 +11,7 @@ use Rattle.algebra.proofs.Division.{division-unique}
 use Rattle.algebra.proofs.Fields.{numbering-decides}
 use Rattle.algebra.proofs.Sums as Sums
 use Rattle.algebra.proofs.Series.{series-laws}
-use Rattle.tables.specs.Places.{at, Within, Apart, Kept, KeptTwo, poly-at}
+use Rattle.tables.specs.Places.{at, Apart, Kept, KeptTwo, poly-at}
 use Rattle.polynomials.specs.Polynomials.{LeavesRemainder}
 use Rattle.polynomials.proofs.LongDivision as Long
 use Rattle.tables.proofs.Parts as P

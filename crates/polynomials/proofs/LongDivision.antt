@@ -2,7 +2,7 @@
 -- (one coefficient of a factor more).
 use mathlib.Core.Path.{_≡_, refl, sym, ap, ap₂, _∙_, fun-ext}
 use mathlib.Core.List.{[], _∷_}
-use Prim.Native.Nat.{ℕ, zero, suc, _≤_, _<_, _+_ as _plus_}
+use Prim.Native.Nat.{ℕ, zero, suc, _+_ as _plus_}
 use native.Mathlib.Omega.{arith}
 use Rattle.algebra.specs.Rings.{RingOps, RingLaws}
 use Rattle.algebra.specs.Series.{constant, series, shift, scale, Below, Polynomial}

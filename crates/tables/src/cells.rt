@@ -1,6 +1,6 @@
 // Single places of a table.
 ghost use mathlib.Core.Path.{_≡_};
-ghost use Prim.Native.Nat.{ℕ, _+_, _<_};
+ghost use Prim.Native.Nat.{_<_};
 ghost use lib.ListN.{length};
 ghost use Rattle.algebra.specs.Rings.{Invertible};
 ghost use Rattle.tables.specs.Places.{at, Kept};

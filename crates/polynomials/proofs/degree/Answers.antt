@@ -1,5 +1,5 @@
-use mathlib.Core.Path.{_≡_, sym, _∙_}
-use Prim.Native.Nat.{_<_, _-_, suc}
+use mathlib.Core.Path.{sym, _∙_}
+use Prim.Native.Nat.{_-_, suc}
 use native.Mathlib.Omega.{arith}
 use Rattle.algebra.proofs.Bounds.{below-mono, below-top}
 use Rattle.tables.specs.Places.{poly-at}

@@ -1,5 +1,3 @@
-use mathlib.Core.Path.{_≡_}
-use Prim.Native.Nat.{ℕ, _≤_}
 use Rattle.tables.specs.Places.{poly-at}
 use Rattle.algebra.specs.Series.{Below}
 use Rattle.polynomials.proofs.degree.Given as given

@@ -1,4 +1,3 @@
-use Prim.Native.Nat.{_+_, _*_}
 use Rattle.frames.specs.Rows.{row-in}
 use Rattle.frames.proofs.RowSteps.{highest-step, larger-bound}
 use Rattle.frames.proofs.row.row_degree.Needs as need
