@@ -62,7 +62,10 @@ fn run_rows<F: Field>(
     if let Some(degrees) = rows::divide(generators, work) {
         let divisor = degrees.divisor;
         let row = degrees.row;
-        println!(rt, "{name}: divisor of degree {divisor}, divided row of degree {row}")?;
+        println!(
+            rt,
+            "{name}: divisor of degree {divisor}, divided row of degree {row}"
+        )?;
     }
     if timed {
         let micros = start.elapsed(rt)?.as_micros();
