@@ -1,3 +1,4 @@
 pub mod Cleanness
+pub mod Guarantees
 pub mod Streams
 pub mod Terms

@@ -1,8 +1,8 @@
 -- Places of streams in a block. Main results: place-within, place-past and stream-past (which places are in the block).
 use mathlib.Core.List.{List}
 use mathlib.Core.Path.{_≡_, sym, ap, ap₂, _∙_, fun-ext}
-use Prim.Native.Nat.{ℕ, suc, _+_, _-_, _*_, _≤_, _<_}
-use native.Mathlib.Nat.{mul-le-mul, mul-le-mul-left, mul-suc}
+use Prim.Native.Nat.{ℕ, suc, _+_, _-_, _*_, _/_, _≤_, _<_}
+use native.Mathlib.Nat.{mul-le-mul, mul-le-mul-left, mul-suc, mul-div-cancel-left}
 use native.Mathlib.Omega.{arith}
 use lib.ListN.{length}
 use Rattle.algebra.specs.Rings.{RingOps}
@@ -44,3 +44,9 @@ dot-streams o member count n block u k e h =
 -- a block that holds a message is as long as all its times
 pub times-of : (long n count q d degree symbols : ℕ) → n ≡ count → d ≡ degree → symbols ≡ q - d → 1 ≤ symbols → long ≡ count * (symbols + degree) → long ≡ n * q
 times-of long n count q d degree symbols e f s h is = is ∙ ap₂ (λ a b. a * b) (sym e) (let t : symbols + degree ≡ q = omega arith in t)
+
+-- and the length of its message is found from its own
+pub symbols-found : (long n d symbols : ℕ) → 2 ≤ n → long ≡ n * (symbols + d) → long / n - d ≡ symbols
+symbols-found long n d symbols low e =
+    let q : long / n ≡ symbols + d = ap (λ x. x / n) e ∙ mul-div-cancel-left (symbols + d) {n = n} (omega arith) in
+    omega arith

@@ -1,8 +1,12 @@
 -- The tables of the link, read as series: coefficient t is the symbol at time t. The clauses of `calls` cite it; it assumes nothing.
 use mathlib.Core.Bool.{Bool, true, false}
 use mathlib.Core.List.{List}
-use Prim.Native.Nat.{ℕ, _+_, _*_}
+use mathlib.Core.Path.{_≡_}
+use Prim.Native.Nat.{ℕ, _+_, _-_, _*_, _<_}
+use lib.ListN.{length}
 use Rattle.algebra.specs.Rings.{RingOps}
+use Rattle.algebra.specs.Series.{series}
+use Rattle.algebra.specs.Link.{inverted}
 use Rattle.tables.specs.Places.{at, poly-at}
 
 -- the message: its symbols, then zeros
@@ -25,3 +29,15 @@ column o member frame j i = poly-at o member frame (136 * j + 17 * i) 17
 abbrev pub Tells : Type 0 → Bool → Type 0
 Tells P true = P
 Tells P false = P → ⊥
+
+-- the block holds L + d times of n streams: stream i is the message times generator i
+abbrev pub Encoded : {F R : Type 0} → RingOps R → (F → R) → (n d : ℕ) (generators message block : List F) → Type 0
+Encoded o member n d generators message block =
+    (i t : ℕ) → i < n → t < length message + d
+    → stream o member n block i t ≡ series o .product (message-series o member message) (generator o member generators i) t
+
+-- the message is what inverting the block gives, cut to its length
+abbrev pub Inverted : {F R : Type 0} → RingOps R → (F → R) → (n : ℕ) (frame block message : List F) → Type 0
+Inverted o member n frame block message =
+    (k : ℕ) → k < length message
+    → message-series o member message k ≡ inverted o (n - 1) (column o member frame) (stream o member n block) k

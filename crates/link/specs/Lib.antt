@@ -1,3 +1,4 @@
 pub mod Blocks
 pub mod Faults
+pub mod Guarantees
 pub mod Questions

@@ -7,7 +7,7 @@ use Rattle.link.specs.Blocks.{stream, column}
 use Rattle.link.proofs.calls.clean_at.Needs as need
 
 pub returns-then-not-same : need.returns-then-not-same
-returns-then-not-same g c = λ z. c .if-not-same .ensures tt (c .combination .ensures ∙ z (c .loop-j .j) (c .loop-j .kept .j) (c .loop-j-test .taken) ∙ sym (c .zero .ensures))
+returns-then-not-same g c = λ z. c .if-not-same .ensures tt (c .combination .ensures ∙ z (c .loop-j .j) (omega arith) (c .loop-j-test .taken) ∙ sym (c .zero .ensures))
 
 pub loop-j-again : need.loop-j-again
 loop-j-again g c =

@@ -2,7 +2,7 @@ use mathlib.Core.Path.{_≡_}
 use Prim.Native.Nat.{ℕ, _<_, _≤_}
 use Rattle.algebra.specs.Series.{dot, series}
 use Rattle.link.specs.Blocks.{column, stream}
-use Rattle.link.proofs.calls.check.Given as given
+use Rattle.link.proofs.calls.is_clean.Given as given
 
 abbrev pub Inv-loop-t : given.InvT-loop-t
 Inv-loop-t g l =
