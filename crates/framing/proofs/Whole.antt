@@ -1,13 +1,13 @@
 -- What holds of the frame in its table: the degrees fit, and no column is zero. Assumes nothing.
 use mathlib.Core.List.{List}
-use mathlib.Core.Path.{_≡_, sym, ap, _∙_}
-use Prim.Native.Nat.{ℕ, zero, suc, _+_, _*_, _<_, _≤_}
+use mathlib.Core.Path.{_≡_, sym, ap, _∙_, subst}
+use Prim.Native.Nat.{ℕ, zero, suc, _+_, _-_, _*_, _<_, _≤_}
 use native.Mathlib.Decide.{decLe}
 use native.Mathlib.Omega.{arith}
 use Rattle.algebra.specs.Rings.{RingOps, RingLaws, FieldLaws, IsField}
 use Rattle.algebra.specs.Series.{dot, series, Degree}
-use Rattle.algebra.specs.Divisors.{AllZero, VectorDegree}
-use Rattle.algebra.specs.Frames.{IsFrame}
+use Rattle.algebra.specs.Divisors.{AllZero, VectorDegree, MonicGcd, DividedRow}
+use Rattle.algebra.specs.Frames.{FrameColumns, IsFrame}
 use Rattle.algebra.proofs.Bounds as B
 use Rattle.algebra.proofs.Fields as Fields
 use Rattle.algebra.proofs.Series as S
@@ -43,3 +43,17 @@ module _ {R : Type 0} (o : RingOps R) (field : IsField o) where
   columns-nonzero m a g d c frame (suc j) h none =
       let v = Optimal.frame-degrees o field m a g d c frame .1 j (omega arith) in
       v .top (ap (λ (f : ℕ → R). f (Optimal.frame-degrees o field m a g d c frame .0 j)) (none (v .component) (v .within)))
+
+  -- the frame columns of the divided row, with the divisor, are the frame of the generators
+  pub frame-of-columns : (n : ℕ) → 2 ≤ n → (a : ℕ → ℕ → R) (g : ℕ → R) (r : ℕ → ℕ → R) (d : ℕ) (c : ℕ → ℕ → ℕ → R) → MonicGcd o n a g → DividedRow o n a g r → VectorDegree o n r d
+    → (p : ℕ → ℕ) × FrameColumns o (n - 1) d r p c → IsFrame o (n - 1) a g d c
+  frame-of-columns n two a g r d c gcd divided degree columns =
+      let e : n ≡ suc (n - 1) = omega arith in
+      record {
+        divisor = subst (λ (k : ℕ). MonicGcd o k a g) e gcd;
+        row = r;
+        divided = subst (λ (k : ℕ). DividedRow o k a g r) e divided;
+        degree = subst (λ (k : ℕ). VectorDegree o k r d) e degree;
+        place = columns .0;
+        columns = columns .1
+      }
