@@ -1,17 +1,19 @@
 -- Steps in a table: reading the numbers of one, and writing one behind the others.
 use mathlib.Core.List.{List, [], _∷_}
 use mathlib.Core.Path.{_≡_, refl, sym, ap, ap₂, _∙_, fun-ext, subst}
-use Prim.Native.Nat.{ℕ, zero, suc, _+_, _*_, _<_, _≤_, suc-le-suc}
+use Prim.Native.Nat.{ℕ, zero, suc, _+_, _-_, _*_, _<_, _≤_, suc-le-suc}
 use native.Mathlib.Decide.{ℕ-discrete, decLt}
 use native.Mathlib.Nat.{not-suc-le-zero, zero-add, suc-add, mul-suc, mul-le-mul-left, add-comm}
 use native.Mathlib.Numerals.{add-one}
 use native.Mathlib.Omega.{arith}
 use lib.ListN.{length, getD, set, take, drop, length-set}
 use borrow.Author.Count.{below-more}
+use borrow.Rule.Slice.PartMut.{putMid}
+use Rattle.std.proofs.shelf.Parts.{take-putMid-below, drop-putMid, between-putMid}
 use Rattle.algebra.specs.Rings.{RingOps}
 use Rattle.tables.specs.Places.{at}
 use Rattle.tables.proofs.Places.{at-past, at-set-same, at-set-other}
-use Rattle.elimination.specs.Steps.{write, front, step, reduced, factors-at}
+use Rattle.elimination.specs.Steps.{write, front, step, reduced, column-at}
 use Rattle.elimination.proofs.StepMaps.{write-same, write-other, front-low, front-high, front-is}
 
 -- the rows of step t lie below those of step n
@@ -48,7 +50,7 @@ module _ {F M : Type 0} (o : RingOps M) (m : F → M) where
   at-part k n xs = fun-ext (at-take n (drop k xs)) ∙ ap (front o n) (fun-ext (at-drop k xs))
 
   -- what stands below the rows of step n is all that the steps before it have
-  pub factors-same : (rows n : ℕ) (xs ys : List F) → ((k : ℕ) → k < rows * n → at o m ys k ≡ at o m xs k) → (t : ℕ) → t < n → factors-at o m rows ys t ≡ factors-at o m rows xs t
+  pub factors-same : (rows n : ℕ) (xs ys : List F) → ((k : ℕ) → k < rows * n → at o m ys k ≡ at o m xs k) → (t : ℕ) → t < n → column-at o m rows ys t ≡ column-at o m rows xs t
   factors-same rows n xs ys e t h = front-ext o rows (λ r. at o m ys (rows * t + r)) (λ r. at o m xs (rows * t + r)) (λ r l. e (rows * t + r) (omega (arith, row-room rows t n h)))
 
   -- the first r entries of a column stand from base on, and nothing below base is changed
@@ -78,3 +80,35 @@ module _ {F M : Type 0} (o : RingOps M) (m : F → M) where
 
   pub copied-kept : (start column : List F) (base p : ℕ) (now : List F) (r : ℕ) (x : F) → Copied start column base now r → (k : ℕ) → k < base → at o m (set now (base + p) x) k ≡ at o m start k
   copied-kept start column base p now r x (a, b) k h = at-set-other o m now (base + p) k x (omega arith) ∙ b k h
+
+  at-of-take : (k : ℕ) (xs : List F) (r : ℕ) → r < k → at o m (take k xs) r ≡ at o m xs r
+  at-of-take k xs r h = at-take k xs r ∙ front-low o k (at o m xs) r h
+
+  at-from : (k : ℕ) (xs : List F) (r : ℕ) → k ≤ r → at o m (drop k xs) (r - k) ≡ at o m xs r
+  at-from k xs r h = at-drop k xs (r - k) ∙ ap (at o m xs) (omega arith)
+
+  -- a table after its part of n elements from k on was replaced by ys
+  module _ (k n : ℕ) (xs ys : List F) (room : k + n ≤ length xs) (long : length ys ≡ n) where
+    size : k + n - k ≡ n
+    size = omega arith
+
+    pub part-is : at o m (take (k + n - k) (drop k xs)) ≡ front o n (λ r. at o m xs (k + r))
+    part-is = ap (λ j. at o m (take j (drop k xs))) size ∙ at-part k n xs
+
+    pub replaced-here : at o m ys ≡ front o n (λ r. at o m (putMid k (k + n - k) xs ys) (k + r))
+    replaced-here =
+        ap (at o m) (sym (between-putMid k (k + n - k) xs ys (k + n) (omega arith) (omega arith)))
+        ∙ ap (λ j. at o m (take j (drop k (putMid k (k + n - k) xs ys)))) size
+        ∙ at-part k n (putMid k (k + n - k) xs ys)
+
+    pub replaced-before : (r : ℕ) → r < k → at o m (putMid k (k + n - k) xs ys) r ≡ at o m xs r
+    replaced-before r h =
+        sym (at-of-take k (putMid k (k + n - k) xs ys) r h)
+        ∙ ap (λ zs. at o m zs r) (take-putMid-below k (k + n - k) xs ys k (omega arith) (omega arith))
+        ∙ at-of-take k xs r h
+
+    pub replaced-behind : (r : ℕ) → k + n ≤ r → at o m (putMid k (k + n - k) xs ys) r ≡ at o m xs r
+    replaced-behind r h =
+        sym (at-from (k + n) (putMid k (k + n - k) xs ys) r h)
+        ∙ ap (λ zs. at o m zs (r - (k + n))) (drop-putMid k (k + n - k) xs ys (k + n) (omega arith) (omega arith) (omega arith))
+        ∙ at-from (k + n) xs r h

@@ -59,9 +59,9 @@ pub record IsPivot {M : Type 0} (o : RingOps M) (rows t : ℕ) (u : ℕ → M) (
   pub inverse : o .product (u p) i ≡ o .one
   pub zeros : (r : ℕ) → t ≤ r → r < p → u r ≡ o .zero
 
--- the numbers of step t in a table, in which each step has so many rows
-abbrev pub factors-at : {F M : Type 0} → RingOps M → (F → M) → ℕ → List F → ℕ → ℕ → M
-factors-at o member rows steps t = front o rows (λ r. at o member steps (rows * t + r))
+-- column t of a table in which each column has so many rows; in the table of steps, the numbers of step t
+abbrev pub column-at : {F M : Type 0} → RingOps M → (F → M) → ℕ → List F → ℕ → ℕ → M
+column-at o member rows table t = front o rows (λ r. at o member table (rows * t + r))
 
 -- the pivot rows in a list
 abbrev pub row-at : List ℕ → ℕ → ℕ
@@ -86,3 +86,11 @@ pub record IsSum {M : Type 0} (o : RingOps M) (rows rank : ℕ) (V : ℕ → ℕ
 abbrev pub Judged : {M : Type 0} → RingOps M → ℕ → ℕ → (ℕ → ℕ → M) → (ℕ → M) → (ℕ → M) → Bool → Type 0
 Judged o rows rank V c E true = Spanned o All rank rows V c → ⊥
 Judged o rows rank V c E false = IsSum o rows rank V c E
+
+-- A column c is taken after so many steps e, p, and E is what is left in its place; f, q are the steps afterwards, and the answer is whether c is
+-- pivotal, for any columns V that the steps turned into the unit vectors.
+pub record Takes {M : Type 0} (o : RingOps M) (rows rank : ℕ) (e : ℕ → ℕ → M) (p : ℕ → ℕ) (c : ℕ → M) (f : ℕ → ℕ → M) (q : ℕ → ℕ) (E : ℕ → M) (pivotal : Bool) : Type 0 where
+  pub are : AreSteps o rows (rank-after rank pivotal) f q
+  pub bound : rank-after rank pivotal ≤ rows
+  pub judged : (V : ℕ → ℕ → M) → Reduces o rows rank e p V → Judged o rows rank V c E pivotal
+  pub reduces : (V : ℕ → ℕ → M) → Reduces o rows rank e p V → Reduces o rows (rank-after rank pivotal) f q (pivots-after rank V c pivotal)

@@ -1,9 +1,9 @@
 // Gauss-Jordan elimination, one column at a time, in lent tables.
 ghost use mathlib.Core.Path.{_≡_};
-ghost use Prim.Native.Nat.{ℕ, _*_, _≤_};
+ghost use Prim.Native.Nat.{ℕ, _+_, _*_, _<_, _≤_};
 ghost use lib.ListN.{length};
 ghost use Rattle.tables.specs.Places.{at};
-ghost use Rattle.elimination.specs.Steps.{factors-at, row-at, rank-after, pivots-after, AreSteps, Reduces, Judged};
+ghost use Rattle.elimination.specs.Steps.{column-at, row-at, AreSteps, Takes};
 use crate::steps::find_pivot;
 use crate::steps::record_step;
 use crate::steps::reduce;
@@ -21,11 +21,8 @@ pub fn take_column<F: Field>(
     column: &mut [F],
 ) -> bool
     requires room { ⌜ rows * rows ≤ length (now steps) ⌝ ∗ ⌜ rows ≤ length (now pivots) ⌝ ∗ ⌜ length (now column) ≡ rows ⌝ }
-    requires are { ⌜ AreSteps ops rows rank (factors-at ops member rows (now steps)) (row-at (now pivots)) ⌝ }
-    ensures are { λ r. ⌜ AreSteps ops rows (rank-after rank r) (factors-at ops member rows (now (steps .exit))) (row-at (now (pivots .exit))) ⌝ }
-    ensures bound { λ r. ⌜ rank-after rank r ≤ rows ⌝ }
-    ensures judged { λ r. ⌜ ((V : ℕ → ℕ → Member) → Reduces ops rows rank (factors-at ops member rows (now (steps .entry))) (row-at (now (pivots .entry))) V → Judged ops rows rank V (at ops member (now (column .entry))) (at ops member (now (column .exit))) r) ⌝ }
-    ensures reduces { λ r. ⌜ ((V : ℕ → ℕ → Member) → Reduces ops rows rank (factors-at ops member rows (now (steps .entry))) (row-at (now (pivots .entry))) V → Reduces ops rows (rank-after rank r) (factors-at ops member rows (now (steps .exit))) (row-at (now (pivots .exit))) (pivots-after rank V (at ops member (now (column .entry))) r)) ⌝ }
+    requires are { ⌜ AreSteps ops rows rank (column-at ops member rows (now steps)) (row-at (now pivots)) ⌝ }
+    ensures { λ r. ⌜ Takes ops rows rank (column-at ops member rows (now (steps .entry))) (row-at (now (pivots .entry))) (at ops member (now (column .entry))) (column-at ops member rows (now (steps .exit))) (row-at (now (pivots .exit))) (at ops member (now (column .exit))) r ⌝ }
 {
     reduce(rows, rank, steps, pivots, column);
     match find_pivot(column, rank) {
@@ -36,4 +33,28 @@ pub fn take_column<F: Field>(
             true
         }
     }
+}
+
+// Takes column q of a matrix, whose columns stand one behind the other.
+pub fn take_column_of<F: Field>(
+    rows: usize,
+    rank: usize,
+    steps: &mut [F],
+    pivots: &mut [usize],
+    matrix: &mut [F],
+    q: usize,
+) -> bool
+    requires room { ⌜ rows * rows ≤ length (now steps) ⌝ ∗ ⌜ rows ≤ length (now pivots) ⌝ ∗ ⌜ rows * q + rows ≤ length (now matrix) ⌝ }
+    requires are { ⌜ AreSteps ops rows rank (column-at ops member rows (now steps)) (row-at (now pivots)) ⌝ }
+    ensures takes { λ r. ⌜ Takes ops rows rank (column-at ops member rows (now (steps .entry))) (row-at (now (pivots .entry))) (column-at ops member rows (now (matrix .entry)) q) (column-at ops member rows (now (steps .exit))) (row-at (now (pivots .exit))) (column-at ops member rows (now (matrix .exit)) q) r ⌝ }
+    ensures before { λ _. ⌜ ((k : ℕ) → k < rows * q → at ops member (now (matrix .exit)) k ≡ at ops member (now (matrix .entry)) k) ⌝ }
+    ensures behind { λ _. ⌜ ((k : ℕ) → rows * q + rows ≤ k → at ops member (now (matrix .exit)) k ≡ at ops member (now (matrix .entry)) k) ⌝ }
+{
+    take_column(
+        rows,
+        rank,
+        steps,
+        pivots,
+        &mut matrix[rows * q..rows * q + rows],
+    )
 }

@@ -4,7 +4,7 @@ ghost use Prim.Native.Nat.{ℕ, _+_, _*_, _<_, _≤_};
 ghost use lib.ListN.{length, take, drop};
 ghost use Rattle.std.specs.Options.{Cases};
 ghost use Rattle.tables.specs.Places.{at};
-ghost use Rattle.elimination.specs.Steps.{step as after-step, reduced, factors-at, row-at, write, AreSteps, IsPivot};
+ghost use Rattle.elimination.specs.Steps.{step as after-step, reduced, column-at, row-at, write, AreSteps, IsPivot};
 use fields::field::Field;
 
 // Takes x times the factors from the column, row by row.
@@ -34,7 +34,7 @@ pub fn apply_step<F: Field>(factors: &[F], t: usize, p: usize, column: &mut [F])
 // The numbers of step t.
 fn factors<F: Field>(rows: usize, steps: &[F], t: usize) -> &[F]
     requires { ⌜ rows * t + rows ≤ length (now steps) ⌝ }
-    ensures value { λ r. ⌜ at ops member (now r) ≡ factors-at ops member rows (now (steps .entry)) t ⌝ }
+    ensures value { λ r. ⌜ at ops member (now r) ≡ column-at ops member rows (now (steps .entry)) t ⌝ }
     ensures len { λ r. ⌜ length (now r) ≡ rows ⌝ }
 {
     &steps[rows * t..rows * t + rows]
@@ -43,8 +43,8 @@ fn factors<F: Field>(rows: usize, steps: &[F], t: usize) -> &[F]
 // Brings a column up to date by the steps found so far.
 pub fn reduce<F: Field>(rows: usize, rank: usize, steps: &[F], pivots: &[usize], column: &mut [F])
     requires room { ⌜ rows * rank ≤ length (now steps) ⌝ ∗ ⌜ rank ≤ length (now pivots) ⌝ ∗ ⌜ length (now column) ≡ rows ⌝ }
-    requires are { ⌜ AreSteps ops rows rank (factors-at ops member rows (now steps)) (row-at (now pivots)) ⌝ }
-    ensures { λ _. ⌜ at ops member (now (column .exit)) ≡ reduced ops (factors-at ops member rows (now (steps .entry))) (row-at (now (pivots .entry))) rank (at ops member (now (column .entry))) ⌝ }
+    requires are { ⌜ AreSteps ops rows rank (column-at ops member rows (now steps)) (row-at (now pivots)) ⌝ }
+    ensures { λ _. ⌜ at ops member (now (column .exit)) ≡ reduced ops (column-at ops member rows (now (steps .entry))) (row-at (now (pivots .entry))) rank (at ops member (now (column .entry))) ⌝ }
 {
     for t in 0..rank {
         apply_step(factors(rows, steps, t), t, pivots[t], column);
@@ -79,7 +79,7 @@ pub fn record_step<F: Field>(
     pivot: Pivot<F>,
 )
     requires room { ⌜ rows * rank + rows ≤ length (now steps) ⌝ ∗ ⌜ length (now column) ≡ rows ⌝ ∗ ⌜ pivot .row < rows ⌝ }
-    ensures here { λ _. ⌜ factors-at ops member rows (now (steps .exit)) rank ≡ write (pivot .row) (member (pivot .inverse)) (at ops member (now (column .entry))) ⌝ }
+    ensures here { λ _. ⌜ column-at ops member rows (now (steps .exit)) rank ≡ write (pivot .row) (member (pivot .inverse)) (at ops member (now (column .entry))) ⌝ }
     ensures others { λ _. ⌜ ((k : ℕ) → k < rows * rank → at ops member (now (steps .exit)) k ≡ at ops member (now (steps .entry)) k) ⌝ }
 {
     for r in 0..rows {

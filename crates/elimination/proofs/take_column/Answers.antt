@@ -4,7 +4,7 @@ use native.Mathlib.Nat.{mul-le-mul-left}
 use native.Mathlib.Omega.{arith}
 use lib.ListN.{length}
 use Rattle.tables.specs.Places.{at}
-use Rattle.elimination.specs.Steps.{factors-at, row-at, IsPivot}
+use Rattle.elimination.specs.Steps.{column-at, row-at, IsPivot}
 use Rattle.elimination.proofs.Tables.{row-room}
 use Rattle.elimination.proofs.Relations.{rank-bound}
 use Rattle.elimination.proofs.Taking.{taken-sum, taken-pivotal, taken-steps, taken-reduces}
@@ -13,7 +13,7 @@ use Rattle.elimination.proofs.take_column.Needs as need
 pub reduce-requires : need.reduce-requires
 reduce-requires g c κs =
     let f = g .F·Field in
-    let few : c .args .rank ≤ c .args .rows = rank-bound (f .ops) (c .args .rows) (c .args .rank) (factors-at (f .ops) (f .member) (c .args .rows) (c .args .steps .now)) (row-at (c .args .pivots .now)) (c .pre .are) in
+    let few : c .args .rank ≤ c .args .rows = rank-bound (f .ops) (c .args .rows) (c .args .rank) (column-at (f .ops) (f .member) (c .args .rows) (c .args .steps .now)) (row-at (c .args .pivots .now)) (c .pre .are) in
     record { room = (omega (arith, c .pre .room, mul-le-mul-left (c .args .rows) few), (omega (arith, c .pre .room), c .pre .room .1 .1)); are = c .pre .are }
 
 pub record-step-requires : need.record-step-requires
@@ -45,7 +45,7 @@ returns-in-None g c =
     let f = g .F·Field in
     record {
       are = c .pre .are;
-      bound = rank-bound (f .ops) (c .args .rows) (c .args .rank) (factors-at (f .ops) (f .member) (c .args .rows) (c .args .steps .now)) (row-at (c .args .pivots .now)) (c .pre .are);
+      bound = rank-bound (f .ops) (c .args .rows) (c .args .rank) (column-at (f .ops) (f .member) (c .args .rows) (c .args .steps .now)) (row-at (c .args .pivots .now)) (c .pre .are);
       judged = taken-sum (f .ops) (f .member) (g .F·Field·met .laws) (c .args .rows) (c .args .rank) (c .args .steps .now) (c .args .pivots .now) (c .args .column .now) (c .reduce .last .column) (c .pre .room .1 .1) (c .reduce .ensures) (c .pre .are) (c .in-None .ensures tt);
       reduces = λ V turns. turns;
     }

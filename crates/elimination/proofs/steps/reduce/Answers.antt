@@ -1,6 +1,6 @@
 use native.Mathlib.Omega.{arith}
 use Rattle.tables.specs.Places.{at}
-use Rattle.elimination.specs.Steps.{factors-at, row-at}
+use Rattle.elimination.specs.Steps.{column-at, row-at}
 use Rattle.elimination.proofs.Tables.{row-room, reduced-more}
 use Rattle.elimination.proofs.steps.reduce.Needs as need
 
@@ -15,5 +15,5 @@ apply-step-requires g c κs =
 pub loop-t-again : need.loop-t-again
 loop-t-again g c =
     let f = g .F·Field in
-    reduced-more (f .ops) (factors-at (f .ops) (f .member) (c .args .rows) (c .args .steps .now)) (row-at (c .args .pivots .now)) (c .loop-t .t) (at (f .ops) (f .member) (c .args .column .now))
+    reduced-more (f .ops) (column-at (f .ops) (f .member) (c .args .rows) (c .args .steps .now)) (row-at (c .args .pivots .now)) (c .loop-t .t) (at (f .ops) (f .member) (c .args .column .now))
     (at (f .ops) (f .member) (c .loop-t .column)) (at (f .ops) (f .member) (c .apply-step .last .column)) (at (f .ops) (f .member) (c .factors .result .now)) (c .loop-t .inv) (c .factors .ensures .value) (c .apply-step .ensures)
