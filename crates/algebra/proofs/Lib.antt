@@ -27,4 +27,5 @@ pub mod TestExact
 pub mod Link
 pub mod Certificates
 pub mod ComputedFrames
+pub mod Scanning
 pub mod Theorems

@@ -9,3 +9,4 @@ pub mod Optimal
 pub mod DegreeTest
 pub mod Link
 pub mod Lists
+pub mod Scanning
