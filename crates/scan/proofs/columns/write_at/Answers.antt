@@ -1,0 +1,11 @@
+use mathlib.Core.Path.{_∙_}
+use Rattle.elimination.specs.Steps.{row-at}
+use Rattle.tables.specs.Places.{at}
+use Rattle.scan.proofs.Cells.{at-places-none, at-places-more}
+use Rattle.scan.proofs.columns.write_at.Needs as need
+
+pub loop-t-again : need.loop-t-again
+loop-t-again g c =
+    let f = g .F·Field in
+    at-places-more (f .ops) (f .member) (c .args .n) (c .args .j) (row-at (c .args .places .now)) (at (f .ops) (f .member) (c .args .list .now)) (c .args .rank) (c .loop-t .t) (c .args .frame .now) (c .loop-t .frame) (c .put-at .last .frame)
+    (c .pre .sized .0) (c .pre .sized .1 .0) (c .loop-t-test .taken) (c .pre .rising) (c .loop-t .inv) (c .put-at .ensures .here ∙ c .get .ensures) (c .put-at .ensures .others)

@@ -1,0 +1,3 @@
+// The columns of the degree-optimal frame of a divided row.
+mod columns;
+mod lists;
