@@ -1,8 +1,9 @@
 -- Walking the places of a row in order. Main results: scanned-start, scanned-skip, scanned-pivot and scanned-basic (what is known, from one place to the
--- next), scanned-end (the basic places are found), read-off (the columns read off are the frame columns), read-off-is-frame.
+-- next), scanned-end (the m basic places are found), unit-spanned and rank-is (the 2d + 1 pivotal lists make the unit list), read-off (the columns read off are
+-- the frame columns), read-off-is-frame, check-degree and first-degree.
 use mathlib.Core.Bool.{Bool, true, false, true≢false}
 use mathlib.Core.Path.{_≡_, refl, sym, ap, ap₂, _∙_, subst, fun-ext}
-use mathlib.Core.Logic.{inl, inr}
+use mathlib.Core.Logic.{_⊎_, inl, inr}
 use Prim.Native.Nat.{ℕ, zero, suc, _≤_, _<_, zero-le, suc-le-suc, _*_, _/_, _%_, _-_, _+_ as _plus_}
 use native.Mathlib.Nat.{le-of-suc-le-suc, not-suc-le-zero, le-refl, le-antisymm, eq-or-lt-of-le, mod-lt, div-add-mod, mul-add, mul-suc, mul-le-mul-left}
 use native.Mathlib.Decide.{decLt, ℕ-discrete}
@@ -10,22 +11,26 @@ use native.Mathlib.Omega.{arith}
 use Rattle.algebra.specs.Rings.{RingOps, RingLaws, IsField}
 use Rattle.algebra.specs.Series.{total, dot, series, Below}
 use Rattle.algebra.specs.Independence.{All, Domain, Spanned, Independent, Solution}
-use Rattle.algebra.specs.Divisors.{Combination, DividedRow, MonicGcd, VectorDegree}
+use Rattle.algebra.specs.Divisors.{Bounded, AllZero, Combination, DividedRow, MonicGcd, VectorDegree}
 use Rattle.algebra.specs.Places.{place-list, NonPivotal, Pivotal, Basic, BasicPlaces}
-use Rattle.algebra.specs.Frames.{FrameColumns, IsFrame}
+use Rattle.algebra.specs.Frames.{ZeroOffPivotal, FrameColumns, IsFrame}
 use Rattle.algebra.specs.Scanning.{InClass, Scanned, AtPivots, ReadOff}
 use Rattle.algebra.proofs.Rows as Rows
 use Rattle.algebra.proofs.Sums as Sums
+use Rattle.algebra.proofs.Series as S
 use Rattle.algebra.proofs.Bounds as Bounds
+use Rattle.algebra.proofs.Degrees as Degrees
 use Rattle.algebra.proofs.Exchange as Exchange
 use Rattle.algebra.proofs.Spans as Spans
 use Rattle.algebra.proofs.Pivots as Pivots
 use Rattle.algebra.proofs.DividedRow as R
 use Rattle.algebra.proofs.Places as Places
+use Rattle.algebra.proofs.Places.{at}
 use Rattle.algebra.proofs.Reduction as Reduction
 use Rattle.algebra.proofs.Syzygies as Syzygies
 use Rattle.algebra.proofs.Classes as Classes
 use Rattle.algebra.proofs.BasicPlaces as Basics
+use Rattle.algebra.proofs.Optimal as Optimal
 
 -- what holds below k and at k holds below k + 1
 up-to : (Q : ℕ → Type 0) (k : ℕ) → ((t : ℕ) → t < k → Q t) → Q k → (t : ℕ) → t < suc k → Q t
@@ -67,7 +72,7 @@ rising-no-longer (suc b) m f g rising-f rising-g among =
     let lt = x .1 in
     omega arith
 
--- zero at one number, f elsewhere
+-- zero where A holds, x elsewhere
 abbrev cleared : {M : Type 0} {A : Type 0} → RingOps M → Dec A → M → M
 cleared o (yes a) x = o .zero
 cleared o (no a) x = x
@@ -153,6 +158,13 @@ module _ {M : Type 0} (o : RingOps M) (F : IsField o) (m d : ℕ) (r : ℕ → �
           (λ k b. Sums.total-ext o L T (λ t. o .product (x t) (list (P t) k)) (λ t. o .product (list (P t) k) (x t)) (λ t a. L .product-comm (x t) (list (P t) k)) ∙ s .solves k b)
           (s .not-all-zero .place) (s .not-all-zero .within))
 
+  -- rising basic places are at most m
+  pub basics-at-most : (T : ℕ) (B : ℕ → ℕ) → ((j : ℕ) → j < T → Basic o n d r (B j)) → ((i j : ℕ) → i < j → j < T → B i < B j) → T ≤ m
+  basics-at-most T B basic rising =
+      let known = Basics.basic-places o F m d r v in
+      rising-no-longer T m B (Basics.basic-place o F m d r v) rising (known .rising) (λ j l. known .every (B j) (basic j l))
+
+  -- nothing has been walked
   pub scanned-start : (P B : ℕ → ℕ) (E : ℕ → ℕ → M) (found : ℕ → Bool) → ((i : ℕ) → i < n → found i ≡ false) → Scanned o n d r 0 0 P 0 B E found
   scanned-start P B E found none = record {
     pivotal = λ t l. absurd (not-suc-le-zero l);
@@ -174,8 +186,36 @@ module _ {M : Type 0} (o : RingOps M) (F : IsField o) (m d : ℕ) (r : ℕ → �
     pub spanned-by-found : NonPivotal o n d r q → Spanned o All rank width (lists P) (list q)
     spanned-by-found = Spans.spanned-trans o L All members rank q width (lists P) list (list q) (s .spanned)
 
+    -- no more than 2d + 1 are found
     pub rank-at-most : rank ≤ width
     rank-at-most = pivots-at-most rank P (s .pivotal) (s .pivots-rising)
+
+    -- what is known depends on the places, multipliers and classes found only
+    pub scanned-same : (P′ B′ : ℕ → ℕ) (E′ : ℕ → ℕ → M) (found′ : ℕ → Bool)
+        → ((t : ℕ) → t < rank → P′ t ≡ P t) → ((j : ℕ) → j < b → B′ j ≡ B j)
+        → ((j t : ℕ) → j < b → t < width → E′ j t ≡ E j t) → ((i : ℕ) → i < n → found′ i ≡ found i)
+        → Scanned o n d r q rank P′ b B′ E′ found′
+    scanned-same P′ B′ E′ found′ P-same B-same E-same found-same = record {
+      pivotal = λ t l. subst (Pivotal o n d r) (sym (P-same t l)) (s .pivotal t l);
+      pivots-walked = λ t l. let e = P-same t l in let f = s .pivots-walked t l in omega arith;
+      pivots-rising = λ i t h l. let e = P-same i (omega arith) in let f = P-same t l in let g = s .pivots-rising i t h l in omega arith;
+      spanned = λ p l. let x = s .spanned p l in record {
+        factor = x .factor;
+        inside = λ t a. tt;
+        is = λ k a. x .is k a ∙ Sums.total-ext o L rank (λ t. o .product (x .factor t) (list (P t) k)) (λ t. o .product (x .factor t) (list (P′ t) k)) (λ t c. ap (λ z. o .product (x .factor t) (list z k)) (sym (P-same t c)));
+      };
+      basic = λ j l. subst (Basic o n d r) (sym (B-same j l)) (s .basic j l);
+      basics-walked = λ j l. let e = B-same j l in let f = s .basics-walked j l in omega arith;
+      basics-rising = λ i j h l. let e = B-same i (omega arith) in let f = B-same j l in let g = s .basics-rising i j h l in omega arith;
+      every = λ p l c. let x = s .every p l c in (x .0, x .1, B-same (x .0) (x .1) ∙ x .2);
+      made = λ j k l a.
+          ap (λ z. list z k) (B-same j l)
+          ∙ s .made j k l a
+          ∙ Sums.total-ext o L rank (λ t. o .product (E j t) (list (P t) k)) (λ t. o .product (E′ j t) (list (P′ t) k)) (λ t c. let w = rank-at-most in ap₂ (λ y z. o .product y (list z k)) (sym (E-same j t l (omega arith))) (sym (P-same t c)));
+      earlier = λ j t l a no-earlier. E-same j t l a ∙ s .earlier j t l a (λ c e. no-earlier c (let f = P-same t c in let g = B-same j l in omega arith));
+      has = λ i l e. let x = s .has i l (sym (found-same i l) ∙ e) in (x .0, x .1, ap (λ z. z % n) (B-same (x .0) (x .1)) ∙ x .2);
+      has-not = λ i l e x. s .has-not i l (sym (found-same i l) ∙ e) (x .0, x .1, ap (λ z. z % n) (sym (B-same (x .0) (x .1))) ∙ x .2);
+    }
 
     -- a place whose class has a basic place
     pub scanned-skip : found (q % n) ≡ true → Scanned o n d r (suc q) rank P b B E found
@@ -287,6 +327,14 @@ module _ {M : Type 0} (o : RingOps M) (F : IsField o) (m d : ℕ) (r : ℕ → �
             let x = s .every (n * f .power plus q % n) (let y = before in omega arith) (Classes.basic-of-first o F n positive d r v (q % n) (mod-lt q positive) f) in
             (x .0, x .1, ap (λ t. t % n) (x .2) ∙ Places.place-mod n (f .power) (q % n) (mod-lt q positive))
 
+    -- a place is basic when its class has no basic place yet and its list is a sum of multiples of the lists at the pivotal places found
+    pub basic-here : q < places → found (q % n) ≡ false → Spanned o All rank width (lists P) (list q) → Basic o n d r q
+    basic-here within unknown of-found = record {
+      within = within;
+      non-pivotal = spanned-below q rank P (list q) (s .pivots-walked) of-found;
+      first = λ p e non-pivotal further. s .has-not (q % n) (mod-lt q positive) unknown (class-found p e within non-pivotal further);
+    }
+
     -- a place whose class has no basic place, and whose list is a sum of multiples of the lists at the pivotal places found
     pub scanned-basic : (B′ : ℕ → ℕ) (E′ : ℕ → ℕ → M) (found′ : ℕ → Bool)
         → ((j : ℕ) → j < b → B′ j ≡ B j) → B′ b ≡ q
@@ -320,11 +368,7 @@ module _ {M : Type 0} (o : RingOps M) (F : IsField o) (m d : ℕ) (r : ℕ → �
         of-found = record { factor = E′ b; inside = λ t l. tt; is = multiples }
 
         new : Basic o n d r q
-        new = record {
-          within = within;
-          non-pivotal = spanned-below q rank P (list q) (s .pivots-walked) of-found;
-          first = λ p e non-pivotal further. s .has-not (q % n) (mod-lt q positive) unknown (class-found p e within non-pivotal further);
-        }
+        new = basic-here within unknown of-found
 
         has : (i : ℕ) → i < n → found′ i ≡ true → InClass n (suc b) B′ i
         has i l e = go (ℕ-discrete i (q % n))
@@ -338,6 +382,19 @@ module _ {M : Type 0} (o : RingOps M) (F : IsField o) (m d : ℕ) (r : ℕ → �
         has-not i l e (no f) x = up-to (λ j. B′ j % n ≡ i → ⊥) b
             (λ j a y. s .has-not i l (sym (found-same i l f) ∙ e) (j, a, ap (λ t. t % n) (sym (same j a)) ∙ y))
             (λ y. f (sym y ∙ ap (λ t. t % n) here)) (x .0) (x .1) (x .2)
+
+    -- one more pivotal place leaves them at most 2d + 1
+    pub pivot-room : (Spanned o All rank width (lists P) (list q) → ⊥) → rank < width
+    pivot-room unspanned =
+        let x = scanned-pivot (Rows.slot rank q P) (λ t l. Rows.slot-low rank q P t l) (Rows.slot-at rank q P) unspanned in
+        pivots-at-most (suc rank) (Rows.slot rank q P) (x .pivotal) (x .pivots-rising)
+
+    -- one more basic place leaves them at most m
+    pub basic-room : q < places → found (q % n) ≡ false → Spanned o All rank width (lists P) (list q) → b < m
+    basic-room within unknown of-found =
+        basics-at-most (suc b) (Rows.slot b q B)
+        (up-to (λ j. Basic o n d r (Rows.slot b q B j)) b (λ j l. subst (Basic o n d r) (sym (Rows.slot-low b q B j l)) (s .basic j l)) (subst (Basic o n d r) (sym (Rows.slot-at b q B)) (basic-here within unknown of-found)))
+        (rising-more b B (Rows.slot b q B) q (s .basics-rising) (s .basics-walked) (λ j l. Rows.slot-low b q B j l) (Rows.slot-at b q B))
 
   module _ (rank : ℕ) (P : ℕ → ℕ) (b : ℕ) (B : ℕ → ℕ) (E : ℕ → ℕ → M) (found : ℕ → Bool) (s : Scanned o n d r (n * suc d) rank P b B E found) where
     all-basics : BasicPlaces o n d r b B
@@ -353,7 +410,7 @@ module _ {M : Type 0} (o : RingOps M) (F : IsField o) (m d : ℕ) (r : ℕ → �
         count : b ≡ m
         count =
             le-antisymm
-            (rising-no-longer b m B (Basics.basic-place o F m d r v) (s .basics-rising) (known .rising) (λ j l. known .every (B j) (s .basic j l)))
+            (basics-at-most b B (s .basic) (s .basics-rising))
             (rising-no-longer m b (Basics.basic-place o F m d r v) B (known .rising) (s .basics-rising) (λ j l. all-basics .every (Basics.basic-place o F m d r v j) (known .basic j l)))
 
     module _ (combination : Combination o n r (series o .one)) where
@@ -385,3 +442,116 @@ module _ {M : Type 0} (o : RingOps M) (F : IsField o) (m d : ℕ) (r : ℕ → �
           independent x i e k l =
               sym (Sums.total-ext o L width (λ j. o .product (x j) (unit j k)) (λ j. o .product (unit j k) (x j)) (λ j a. L .product-comm (x j) (unit j k)) ∙ Spans.total-slot o L width k (o .one) x l ∙ Sums.one-product o L (x k))
               ∙ e k l
+
+    -- a sum over all places of terms that are zero but at the pivotal places
+    at-pivots : (g x : ℕ → M) (k : ℕ) → ((t : ℕ) → t < rank → g (P t) ≡ x t) → ((q : ℕ) → q < places → ((t : ℕ) → t < rank → P t ≡ q → ⊥) → g q ≡ o .zero)
+        → total o places (λ q. o .product (g q) (list q k)) ≡ total o rank (λ t. o .product (x t) (list (P t) k))
+    at-pivots g x k here off =
+        total-at-places o L rank places P (λ q. o .product (g q) (list q k)) (s .pivots-rising) (s .pivots-walked) (λ q l others. ap (λ t. o .product t (list q k)) (off q l others) ∙ Sums.zero-product o L (list q k))
+        ∙ Sums.total-ext o L rank (λ t. o .product (g (P t)) (list (P t) k)) (λ t. o .product (x t) (list (P t) k)) (λ t l. ap (λ z. o .product z (list (P t) k)) (here t l))
+
+    power-small : (q : ℕ) → q < places → q / n < suc d
+    power-small = Classes.power-within o F n positive d r v
+
+    -- the product of the row with a vector of degree at most d, from its coefficients below s^(2d+1)
+    product-is : (h : ℕ → ℕ → M) (f : ℕ → M) → Bounded o n (suc d) h → Below o width f
+        → ((k : ℕ) → k < width → total o places (λ q. o .product (at n h q) (list q k)) ≡ f k) → dot (series o) n r h ≡ f
+    product-is h f bounded small e = fun-ext (λ k. elim (decLt k width) [
+      | yes l ↦ Places.dot-places o L n places r h k positive (Places.below-place-of-bounded n positive o (suc d) h bounded) ∙ e k l
+      | no l ↦ Syzygies.dot-below o F n positive (suc d) (suc d) width r h (omega arith) (v .bounded) bounded k (omega arith) ∙ sym (small k (omega arith))
+    ])
+
+    module _ (x : ℕ → M) (excepted : ℕ → Type 0) (h : ℕ → ℕ → M) (a : AtPivots o n d rank P x excepted h) where
+      off-pivotal : ZeroOffPivotal o n d r excepted h
+      off-pivotal = record {
+        bounded = a .bounded;
+        zero-off = λ i k l c non-pivotal. a .elsewhere i k l c (λ t b e. s .pivotal t b (subst (NonPivotal o n d r) (sym e) non-pivotal));
+      }
+
+      value-at-pivot : (t : ℕ) → t < rank → at n h (P t) ≡ x t
+      value-at-pivot t l = a .at-pivot t (P t % n) (P t / n) l (mod-lt (P t) positive) (power-small (P t) (s .pivots-walked t l)) (sym (div-add-mod (P t) n))
+
+      value-elsewhere : (q : ℕ) → q < places → ((t : ℕ) → t < rank → P t ≡ q → ⊥) → (excepted q → ⊥) → at n h q ≡ o .zero
+      value-elsewhere q l others ne = a .elsewhere (q % n) (q / n) (mod-lt q positive) (power-small q l) (λ t b e. others t b (e ∙ div-add-mod q n)) (λ e. ne (subst excepted (div-add-mod q n) e))
+
+    module _ (u : ℕ → M) (c : ℕ → ℕ → ℕ → M) (unit : (k : ℕ) → k < width → series o .one k ≡ total o rank (λ t. o .product (u t) (list (P t) k))) (w : ReadOff o n d rank P b B E u c) where
+      first-product : dot (series o) n r (c 0) ≡ series o .one
+      first-product =
+          product-is (c 0) (series o .one) (w .first .bounded) (Bounds.below-mono o L 1 width (series o .one) (omega arith) (Bounds.below-constant o L (o .one)))
+          (λ k l. at-pivots (at n (c 0)) u k (value-at-pivot u (λ q. ⊥) (c 0) (w .first)) (λ q b others. value-elsewhere u (λ q. ⊥) (c 0) (w .first) q b others (λ z. z)) ∙ sym (unit k l))
+
+      check-product : (j : ℕ) → j < b → dot (series o) n r (c (suc j)) ≡ series o .zero
+      check-product j l = product-is h (series o .zero) (w .check j l .bounded) (Bounds.below-zero o L width) (λ k a.
+          total-apart o L places p (λ q. o .product (at n h q) (list q k)) (λ q. o .product (g q) (list q k)) within (λ q b ne. ap (λ t. o .product t (list q k)) (sym (g-off q ne))) (ap (λ t. o .product t (list p k)) g-at ∙ Sums.zero-product o L (list p k))
+          ∙ ap₂ (o .sum)
+          (ap (λ t. o .product t (list p k)) one ∙ Sums.one-product o L (list p k))
+          (at-pivots g (λ t. o .negative (E j t)) k (λ t b. g-off (P t) (apart t b) ∙ value-at-pivot (λ t. o .negative (E j t)) (λ q. q ≡ p) h (w .check j l) t b) (λ q b others. g-zero q b others (ℕ-discrete q p))
+          ∙ Sums.total-ext o L rank (λ t. o .product (o .negative (E j t)) (list (P t) k)) (λ t. o .negative (o .product (E j t) (list (P t) k))) (λ t b. Sums.negative-product o L (E j t) (list (P t) k))
+          ∙ Sums.total-negative o L rank (λ t. o .product (E j t) (list (P t) k))
+          ∙ ap (o .negative) (sym (s .made j k l a)))
+          ∙ L .sum-negative (list p k))
+        where
+          h : ℕ → ℕ → M
+          h = c (suc j)
+
+          p : ℕ
+          p = B j
+
+          within : p < places
+          within = s .basics-walked j l
+
+          one : at n h p ≡ o .one
+          one = w .one j (p % n) (p / n) l (mod-lt p positive) (power-small p within) (div-add-mod p n)
+
+          -- the column without its one at p
+          g : ℕ → M
+          g q = cleared o (ℕ-discrete q p) (at n h q)
+
+          g-at : g p ≡ o .zero
+          g-at = cleared-yes o (ℕ-discrete p p) (at n h p) refl
+
+          g-off : (q : ℕ) → (q ≡ p → ⊥) → g q ≡ at n h q
+          g-off q = cleared-no o (ℕ-discrete q p) (at n h q)
+
+          apart : (t : ℕ) → t < rank → P t ≡ p → ⊥
+          apart t b e = s .pivotal t b (subst (NonPivotal o n d r) (sym e) (s .basic j l .non-pivotal))
+
+          g-zero : (q : ℕ) → q < places → ((t : ℕ) → t < rank → P t ≡ q → ⊥) → Dec (q ≡ p) → g q ≡ o .zero
+          g-zero q b others (yes e) = ap g e ∙ g-at
+          g-zero q b others (no e) = g-off q e ∙ value-elsewhere (λ t. o .negative (E j t)) (λ q. q ≡ p) h (w .check j l) q b others e
+
+      -- the columns read off are the frame columns
+      pub read-off : FrameColumns o m d r B c
+      read-off =
+          let count = scanned-end .0 in
+          let inside : (j : ℕ) → j < m → j < b = λ j l. omega arith in
+          record {
+            places = scanned-end .1;
+            first-off = off-pivotal u (λ q. ⊥) (c 0) (w .first);
+            first = first-product;
+            check-off = λ j l. off-pivotal (λ t. o .negative (E j t)) (λ q. q ≡ B j) (c (suc j)) (w .check j (inside j l));
+            check-one = λ j i k l a e. w .one j i k (inside j l) a (power-of-place j i k (inside j l) a e) e;
+            check = λ j l. check-product j (inside j l);
+          }
+        where
+          power-of-place : (j i k : ℕ) → j < b → i < n → n * k plus i ≡ B j → k < suc d
+          power-of-place j i k l a e = subst (λ t. t < suc d) (Places.place-div n k i a) (power-small (n * k plus i) (let x = s .basics-walked j l in omega arith))
+
+      -- with the divisor they are the frame
+      pub read-off-is-frame : (a : ℕ → ℕ → M) (g : ℕ → M) → MonicGcd o n a g → DividedRow o n a g r → IsFrame o m a g d c
+      read-off-is-frame a g divisor divided = record { divisor = divisor; row = r; divided = divided; degree = v; place = B; columns = read-off }
+
+      -- the degree of check column j is the power of the j-th basic place
+      pub check-degree : (j : ℕ) → j < m → VectorDegree o n (c (suc j)) (B j / n)
+      check-degree = Optimal.check-degree o F m d r v B c read-off
+
+      -- column 0 has a degree, at most d
+      pub first-degree : (e : ℕ) × (e < suc d) × VectorDegree o n (c 0) e
+      first-degree = go (R.vector-zero-or-degree o F n (suc d) (c 0) (w .first .bounded))
+        where
+          SL : RingLaws (series o)
+          SL = S.series-laws o L
+
+          go : AllZero o n (c 0) ⊎ ((e : ℕ) × (e < suc d) × VectorDegree o n (c 0) e) → (e : ℕ) × (e < suc d) × VectorDegree o n (c 0) e
+          go (inl z) = absurd (Degrees.one-nonzero o F (sym first-product ∙ Sums.total-zero (series o) SL n (λ i. series o .product (r i) (c 0 i)) (λ i l. ap (λ t. series o .product (r i) t) (z i l) ∙ Sums.product-zero (series o) SL (r i))))
+          go (inr x) = x
