@@ -1,2 +1,5 @@
 pub mod Cells
 pub mod PlaceLists
+pub mod FrameTables
+pub mod Scans
+pub mod Walking
