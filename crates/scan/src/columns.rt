@@ -31,7 +31,8 @@ pub fn write_at<F: Field>(
     requires sized { ⌜ 0 < n ⌝ ∗ ⌜ n ≤ 8 ⌝ ∗ ⌜ j < 8 ⌝ }
     requires room { ⌜ rank ≤ length (now places) ⌝ ∗ ⌜ rank ≤ length (now list) ⌝ ∗ ⌜ length (now frame) ≡ 1105 ⌝ }
     requires rising { ⌜ Rising n rank (row-at (now places)) ⌝ }
-    ensures { λ _. ⌜ AtPlaces ops member n j rank (row-at (now (places .entry))) (at ops member (now (list .entry))) (now (frame .entry)) (now (frame .exit)) ⌝ }
+    ensures written { λ _. ⌜ AtPlaces ops member n j rank (row-at (now (places .entry))) (at ops member (now (list .entry))) (now (frame .entry)) (now (frame .exit)) ⌝ }
+    ensures behind { λ _. ⌜ ((k : ℕ) → 1088 ≤ k → at ops member (now (frame .exit)) k ≡ at ops member (now (frame .entry)) k) ⌝ }
 {
     for t in 0..rank {
         put_at(n, j, places[t], get(list, t), frame);
@@ -61,7 +62,8 @@ pub fn write_check<F: Field>(
     requires room { ⌜ q < n * 17 ⌝ ∗ ⌜ rank ≤ length (now places) ⌝ ∗ ⌜ rank ≤ length (now column) ⌝ ∗ ⌜ length (now frame) ≡ 1105 ⌝ }
     requires rising { ⌜ Rising n rank (row-at (now places)) ⌝ }
     requires before { ⌜ ((t : ℕ) → t < rank → row-at (now places) t < q) ⌝ }
-    ensures { λ _. ⌜ CheckAt ops member n j q rank (row-at (now (places .entry))) (λ t. ops .negative (at ops member (now (column .entry)) t)) (now (frame .entry)) (now (frame .exit)) ⌝ }
+    ensures written { λ _. ⌜ CheckAt ops member n j q rank (row-at (now (places .entry))) (λ t. ops .negative (at ops member (now (column .entry)) t)) (now (frame .entry)) (now (frame .exit)) ⌝ }
+    ensures behind { λ _. ⌜ ((k : ℕ) → 1088 ≤ k → at ops member (now (frame .exit)) k ≡ at ops member (now (frame .entry)) k) ⌝ }
 {
     negate_all(column);
     write_at(n, j, rank, places, column, frame);
