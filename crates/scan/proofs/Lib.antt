@@ -3,3 +3,5 @@ pub mod PlaceLists
 pub mod FrameTables
 pub mod Scans
 pub mod Walking
+pub mod RowParts
+pub mod DividedFrames

@@ -147,14 +147,14 @@ module _ {F M : Type 0} (o : RingOps M) (field : IsField o) (member : F → M) (
 
   -- at the end of the walk, the unit list was taken and column 0 written
   module _ (rank b : ℕ) (steps : List F) (pivots places : List ℕ) (found : List Bool) (frame : List F) (w : Walked o member n d rows r (n * suc d) rank b steps pivots places found frame)
-      (coprime : Combination o n r (series o .one)) (e f : ℕ → ℕ → M) (p : ℕ → ℕ) (c R : ℕ → M) (unit : (k : ℕ) → c k ≡ series o .one k) where
-    unit-sum : (pivotal : Bool) → Takes o rows rank (column-at o member rows steps) (row-at pivots) c f p R pivotal → IsSum o rows rank (λ t. place-list o n r (row-at places t)) c R
+      (coprime : Combination o n r (series o .one)) (e : ℕ → ℕ → M) (p : ℕ → ℕ) (c R : ℕ → M) (unit : (k : ℕ) → c k ≡ series o .one k) where
+    unit-sum : (pivotal : Bool) → Takes o rows rank (column-at o member rows steps) (row-at pivots) c e p R pivotal → IsSum o rows rank (λ t. place-list o n r (row-at places t)) c R
     unit-sum true takes =
         let x = Scans.unit-made o field d r n positive v rank (row-at places) b (w .B) (w .E) (mark-at found) (w .scanned) coprime in
         absurd (takes .judged (λ t. place-list o n r (row-at places t)) (w .reduces) (record { factor = x .factor; inside = λ j l. tt; is = λ k l. unit k ∙ x .is k (omega arith) }))
     unit-sum false takes = takes .judged (λ t. place-list o n r (row-at places t)) (w .reduces)
 
-    pub columns-written : (pivotal : Bool) → Takes o rows rank (column-at o member rows steps) (row-at pivots) c f p R pivotal
+    pub columns-written : (pivotal : Bool) → Takes o rows rank (column-at o member rows steps) (row-at pivots) c e p R pivotal
         → (after : List F) → AtPlaces o member n 0 rank (row-at places) R frame after
         → ((B : ℕ → ℕ) × FrameColumns o (n - 1) d r B (column-in o member after))
         × ((j i k : ℕ) → j < 8 → i < 8 → k < 17 → (j < n → i < n → ⊥) → at o member after (136 * j + 17 * i + k) ≡ o .zero)
