@@ -1,4 +1,4 @@
--- The tables of the link, read as series: coefficient t is the symbol at time t. The clauses of `calls` cite it; it assumes nothing.
+-- The tables of the link, read as series: coefficient t is the symbol at time t. The clauses of `products` and `calls` cite it; it assumes nothing.
 use mathlib.Core.Bool.{Bool, true, false}
 use mathlib.Core.List.{List}
 use mathlib.Core.Path.{_≡_}
