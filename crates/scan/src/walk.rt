@@ -90,7 +90,18 @@ pub fn walk<F: Field>(
     let mut counts = Counts { rank: 0, basics: 0 };
     for q in 0..n * (d + 1) {
         counts = walk_place(
-            n, d, rows, q, counts, row, steps, pivots, column, places, found, frame,
+            n,
+            d,
+            rows,
+            q,
+            counts,
+            row,
+            steps,
+            pivots,
+            column,
+            places,
+            found,
+            frame,
         );
     }
     counts
