@@ -6,7 +6,7 @@ use mathlib.Core.Path.{_≡_, refl, sym, ap, ap₂, subst, _∙_}
 use mathlib.Core.Logic.{inl, inr}
 use Prim.Native.Nat.{ℕ, suc, _+_, _*_, _/_, _%_, _<_, _≤_}
 use native.Mathlib.Decide.{decLt}
-use native.Mathlib.Nat.{not-suc-le-zero, le-refl, mod-lt, eq-or-lt-of-le, le-of-suc-le-suc, mul-le-mul-left, div-add-mod}
+use native.Mathlib.Nat.{not-suc-le-zero, mod-lt, eq-or-lt-of-le, le-of-suc-le-suc, mul-le-mul-left, div-add-mod}
 use native.Mathlib.Omega.{arith}
 use Rattle.algebra.specs.Rings.{RingOps, RingLaws}
 use Rattle.algebra.specs.Scanning.{Scanned, AtPivots, ReadOff}

@@ -1,21 +1,20 @@
 -- From one place of the walk to the next: walked-start, walked-skip, walked-pivot and walked-basic; at its end, columns-written.
 use mathlib.Core.Bool.{Bool, true, false}
 use mathlib.Core.List.{List}
-use mathlib.Core.Path.{_≡_, refl, sym, ap, subst, _∙_}
+use mathlib.Core.Path.{_≡_, sym, ap, _∙_}
 use mathlib.Core.Logic.{inl, inr}
 use Prim.Native.Nat.{ℕ, suc, _+_, _-_, _*_, _%_, _<_, _≤_}
 use native.Mathlib.Nat.{not-suc-le-zero, le-refl, mod-lt, eq-or-lt-of-le, le-of-suc-le-suc, mul-le-mul-left}
 use native.Mathlib.Omega.{arith}
-use lib.ListN.{length, getD, set}
+use lib.ListN.{length, set}
 use lib.Seq.{getD-set-same, getD-set-other}
 use Rattle.algebra.specs.Rings.{RingOps, RingLaws, IsField}
 use Rattle.algebra.specs.Series.{total, series}
-use Rattle.algebra.specs.Independence.{All, Spanned}
 use Rattle.algebra.specs.Divisors.{Combination, VectorDegree}
 use Rattle.algebra.specs.Places.{place-list}
 use Rattle.algebra.specs.Frames.{FrameColumns}
 use Rattle.tables.specs.Places.{at}
-use Rattle.elimination.specs.Steps.{write, front, column-at, row-at, reduced, Takes, IsSum}
+use Rattle.elimination.specs.Steps.{write, column-at, row-at, reduced, Takes, IsSum}
 use Rattle.elimination.proofs.StepMaps.{write-same, write-other}
 use Rattle.elimination.proofs.Tables.{front-ext}
 use Rattle.scan.specs.Columns.{column-in, AtPlaces, CheckAt, Rising}
