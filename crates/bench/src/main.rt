@@ -1,4 +1,7 @@
-// Multiplies a million times in each field and writes the last code; with the word `time`, also how long that took.
+// Multiplies a million times in each field and writes the last code; finds the greatest common divisor of a row a thousand times and writes
+// the degrees; with the word `time`, also how long each took.
+mod rows;
+
 use fields::fault::FieldFault;
 use fields::field::Field;
 use nibbles::Nibble;
@@ -47,6 +50,30 @@ fn run<F: Field>(
     Ok(())
 }
 
+fn run_rows<F: Field>(
+    rt: &LibcRuntime,
+    name: &str,
+    generators: &mut [F],
+    work: &mut [F],
+    timed: bool,
+) -> io::Result<()> {
+    rows::fill(generators);
+    let start = Instant::now(rt)?;
+    if let Some(degrees) = rows::divide(generators, work) {
+        let divisor = degrees.divisor;
+        let row = degrees.row;
+        println!(
+            rt,
+            "{name}: divisor of degree {divisor}, divided row of degree {row}"
+        )?;
+    }
+    if timed {
+        let micros = start.elapsed(rt)?.as_micros();
+        println!(rt, "{name}: {micros} microseconds")?;
+    }
+    Ok(())
+}
+
 fn main(rt: LibcRuntime) -> io::Result<()> {
     let mut timed = false;
     for word in env::args(&rt)? {
@@ -57,5 +84,19 @@ fn main(rt: LibcRuntime) -> io::Result<()> {
     run::<Tone>(&rt, "tones", 3, 11, timed)?;
     run::<Nibble>(&rt, "nibbles", 2, 9, timed)?;
     run::<Byte>(&rt, "bytes", 16, 77, timed)?;
-    run::<TonePair>(&rt, "tone pairs", 40, 500, timed)
+    run::<TonePair>(&rt, "tone pairs", 40, 500, timed)?;
+    run_rows(
+        &rt,
+        "rows of tones",
+        &mut [Tone::zero(); 136],
+        &mut [Tone::zero(); 4521],
+        timed,
+    )?;
+    run_rows(
+        &rt,
+        "rows of bytes",
+        &mut [Byte::zero(); 136],
+        &mut [Byte::zero(); 4521],
+        timed,
+    )
 }

@@ -23,6 +23,8 @@ pub enum DesignFault {
     NoSuchGenerator,
     // The power is above 16.
     PowerTooHigh,
+    // Every generator is zero.
+    AllZero,
     // The field refuses the code.
     Field(FieldFault),
 }
@@ -47,6 +49,7 @@ pub impl Refusal for DesignFault as DesignRefusal {
             DesignFault::GeneratorCount => 2,
             DesignFault::NoSuchGenerator => 3,
             DesignFault::PowerTooHigh => 4,
+            DesignFault::AllZero => 6,
             DesignFault::Field(fault) => fault.number(),
         }
     }
@@ -81,6 +84,7 @@ pub impl fmt::Display for DesignFault as DesignFaultDisplay {
             DesignFault::GeneratorCount => write!(f, "the number of generators is not from 2 to 8"),
             DesignFault::NoSuchGenerator => write!(f, "there is no generator of that number"),
             DesignFault::PowerTooHigh => write!(f, "the power is above 16"),
+            DesignFault::AllZero => write!(f, "every generator is zero"),
             DesignFault::Field(fault) => write!(f, "{fault}"),
         }
     }

@@ -2,7 +2,10 @@
 ghost use mathlib.Core.Path.{_≡_};
 ghost use Prim.Native.Nat.{_+_, _*_, _/_, _%_, _^_, _≤_};
 
+use framing::Numbers;
+
 mod calls;
+mod frame;
 
 // Numbers only, made by a granted call, and moved, never copied.
 #[derive(Drop)]
@@ -21,6 +24,19 @@ pub struct Framed {
 }
 
 impl Framed {
+    // The framed design of n generators with the numbers of its frame.
+    pub(crate) fn of(n: usize, numbers: Numbers) -> Framed
+        requires { ⌜ 2 ≤ n ⌝ ∗ ⌜ n ≤ 8 ⌝ ∗ ⌜ numbers .degree + numbers .divisor ≤ 16 ⌝ }
+        ensures { λ r. ⌜ r .n ≡ n ⌝ ∗ ⌜ r .degree ≡ numbers .degree ⌝ ∗ ⌜ r .divisor ≡ numbers .divisor ⌝ ∗ ⌜ r .columns ≡ numbers .columns ⌝ }
+    {
+        Framed {
+            n,
+            degree: numbers.degree,
+            divisor: numbers.divisor,
+            columns: numbers.columns,
+        }
+    }
+
     // How many generators the design has.
     pub fn generators(&self) -> usize
         ensures { λ r. ⌜ r ≡ now (self .entry) .n ⌝ }

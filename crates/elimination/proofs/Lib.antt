@@ -3,3 +3,5 @@ pub mod Columns
 pub mod Tables
 pub mod Relations
 pub mod Taking
+pub mod Echelons
+pub mod Whole

@@ -1,4 +1,5 @@
--- Steps of elimination are linear and send only zero to zero.
+-- Steps of elimination as maps on vectors. Main results: reduced-total (relations among vectors are kept), reduced-kernel (only zero is sent to
+-- zero), step-keeps (vectors that are zero from row t on stay), step-of-pivot (the new pivotal column becomes a unit vector).
 use mathlib.Core.Path.{_≡_, refl, sym, ap, ap₂, _∙_, fun-ext, subst}
 use mathlib.Core.List.{[], _∷_}
 use Prim.Native.Nat.{ℕ, zero, suc, _≤_, _<_, zero-le, suc-le-suc}
@@ -127,7 +128,6 @@ module _ {M : Type 0} (o : RingOps M) (L : RingLaws o) where
     within = lt;
     pivot = u p;
     inverse = ap (λ x. u p · x) (write-same p i u) ∙ inv;
-    passed = λ n. write-other p i u t (λ h. n (sym h)) ∙ zeros t (le-refl t) (omega arith);
   }
 
   module _ (e : ℕ → ℕ → M) (p : ℕ → ℕ) where

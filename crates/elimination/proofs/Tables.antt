@@ -50,8 +50,8 @@ module _ {F M : Type 0} (o : RingOps M) (m : F → M) where
   at-part k n xs = fun-ext (at-take n (drop k xs)) ∙ ap (front o n) (fun-ext (at-drop k xs))
 
   -- what stands below the rows of step n is all that the steps before it have
-  pub factors-same : (rows n : ℕ) (xs ys : List F) → ((k : ℕ) → k < rows * n → at o m ys k ≡ at o m xs k) → (t : ℕ) → t < n → column-at o m rows ys t ≡ column-at o m rows xs t
-  factors-same rows n xs ys e t h = front-ext o rows (λ r. at o m ys (rows * t + r)) (λ r. at o m xs (rows * t + r)) (λ r l. e (rows * t + r) (omega (arith, row-room rows t n h)))
+  pub columns-same : (rows n : ℕ) (xs ys : List F) → ((k : ℕ) → k < rows * n → at o m ys k ≡ at o m xs k) → (t : ℕ) → t < n → column-at o m rows ys t ≡ column-at o m rows xs t
+  columns-same rows n xs ys e t h = front-ext o rows (λ r. at o m ys (rows * t + r)) (λ r. at o m xs (rows * t + r)) (λ r l. e (rows * t + r) (omega (arith, row-room rows t n h)))
 
   -- the first r entries of a column stand from base on, and nothing below base is changed
   abbrev pub Copied : List F → List F → ℕ → List F → ℕ → Type 0

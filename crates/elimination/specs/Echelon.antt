@@ -4,6 +4,7 @@ use Prim.Native.Nat.{ℕ, _≤_, _<_}
 use Rattle.algebra.specs.Rings.{RingOps}
 use Rattle.algebra.specs.Series.{total}
 use Rattle.algebra.specs.Independence.{All, Spanned, Independent}
+use Rattle.elimination.specs.Steps.{AreSteps, Reduces}
 
 -- j is none of the places
 abbrev pub NoPlace : ℕ → (ℕ → ℕ) → ℕ → Type 0
@@ -25,3 +26,9 @@ pub record Echelon {M : Type 0} (o : RingOps M) (rows : ℕ) (W : ℕ → ℕ �
 pub record Relations {M : Type 0} (o : RingOps M) (rows : ℕ) (W E : ℕ → ℕ → M) (q rank : ℕ) (place : ℕ → ℕ) : Type 0 where
   pub is : (j : ℕ) → j < q → NoPlace rank place j → (r : ℕ) → r < rows → W j r ≡ total o rank (λ t. o .product (E j t) (W (place t) r))
   pub zeros : (j t : ℕ) → j < q → NoPlace rank place j → (t < rank → j < place t) → E j t ≡ o .zero
+
+-- the steps e, p have been made of the first q columns, of which the pivotal ones are turned into the unit vectors
+pub record Eliminated {M : Type 0} (o : RingOps M) (rows : ℕ) (W : ℕ → ℕ → M) (q rank : ℕ) (e : ℕ → ℕ → M) (p place : ℕ → ℕ) : Type 0 where
+  pub valid : AreSteps o rows rank e p
+  pub turns : Reduces o rows rank e p (λ t. W (place t))
+  pub echelon : Echelon o rows W q rank place

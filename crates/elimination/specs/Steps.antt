@@ -1,4 +1,5 @@
--- Elimination on vectors: one step, the steps one after the other, and what makes steps good. Vectors are functions of the row.
+-- Elimination on vectors: one step, the steps one after the other, and what taking a column does. The clauses of every function of the crate cite it.
+-- Vectors are functions of the row.
 use mathlib.Core.Bool.{Bool, true, false}
 use mathlib.Core.List.{List}
 use mathlib.Core.Path.{_≡_}
@@ -36,13 +37,12 @@ abbrev pub reduced : {M : Type 0} → RingOps M → (ℕ → ℕ → M) → (ℕ
 reduced o e p zero u = u
 reduced o e p (suc t) u = step o (e t) t (p t) (reduced o e p t u)
 
--- step t on vectors of so many rows: its pivot row is not above t, e p has an inverse, and e t is zero where another row is exchanged with row t
+-- step t on vectors of so many rows: its pivot row is row t or a later one, and e p is the inverse of the pivot
 pub record IsStep {M : Type 0} (o : RingOps M) (rows t : ℕ) (e : ℕ → M) (p : ℕ) : Type 0 where
   pub low : t ≤ p
   pub within : p < rows
   pub pivot : M
   pub inverse : o .product pivot (e p) ≡ o .one
-  pub passed : (p ≡ t → ⊥) → e t ≡ o .zero
 
 -- steps 0 .. rank - 1
 abbrev pub AreSteps : {M : Type 0} → RingOps M → ℕ → ℕ → (ℕ → ℕ → M) → (ℕ → ℕ) → Type 0
@@ -63,9 +63,9 @@ pub record IsPivot {M : Type 0} (o : RingOps M) (rows t : ℕ) (u : ℕ → M) (
 abbrev pub column-at : {F M : Type 0} → RingOps M → (F → M) → ℕ → List F → ℕ → ℕ → M
 column-at o member rows table t = front o rows (λ r. at o member table (rows * t + r))
 
--- the pivot rows in a list
-abbrev pub row-at : List ℕ → ℕ → ℕ
-row-at pivots t = getD pivots t 0
+-- entry t of a list of numbers, zero past its end
+abbrev pub entry-at : List ℕ → ℕ → ℕ
+entry-at numbers t = getD numbers t 0
 
 -- how many steps there are after a column, by whether it is pivotal
 abbrev pub rank-after : ℕ → Bool → ℕ
@@ -90,7 +90,7 @@ Judged o rows rank V c E false = IsSum o rows rank V c E
 -- A column c is taken after so many steps e, p, and E is what is left in its place; f, q are the steps afterwards, and the answer is whether c is
 -- pivotal, for any columns V that the steps turned into the unit vectors.
 pub record Takes {M : Type 0} (o : RingOps M) (rows rank : ℕ) (e : ℕ → ℕ → M) (p : ℕ → ℕ) (c : ℕ → M) (f : ℕ → ℕ → M) (q : ℕ → ℕ) (E : ℕ → M) (pivotal : Bool) : Type 0 where
-  pub are : AreSteps o rows (rank-after rank pivotal) f q
+  pub valid : AreSteps o rows (rank-after rank pivotal) f q
   pub bound : rank-after rank pivotal ≤ rows
   pub judged : (V : ℕ → ℕ → M) → Reduces o rows rank e p V → Judged o rows rank V c E pivotal
   pub reduces : (V : ℕ → ℕ → M) → Reduces o rows rank e p V → Reduces o rows (rank-after rank pivotal) f q (pivots-after rank V c pivotal)

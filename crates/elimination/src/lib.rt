@@ -3,7 +3,8 @@ ghost use mathlib.Core.Path.{_≡_};
 ghost use Prim.Native.Nat.{ℕ, _+_, _*_, _<_, _≤_};
 ghost use lib.ListN.{length};
 ghost use Rattle.tables.specs.Places.{at};
-ghost use Rattle.elimination.specs.Steps.{column-at, row-at, AreSteps, Takes};
+ghost use Rattle.elimination.specs.Echelon.{Echelon, Relations};
+ghost use Rattle.elimination.specs.Steps.{column-at, entry-at, AreSteps, Takes};
 use crate::steps::find_pivot;
 use crate::steps::record_step;
 use crate::steps::reduce;
@@ -21,8 +22,8 @@ pub fn take_column<F: Field>(
     column: &mut [F],
 ) -> bool
     requires room { ⌜ rows * rows ≤ length (now steps) ⌝ ∗ ⌜ rows ≤ length (now pivots) ⌝ ∗ ⌜ length (now column) ≡ rows ⌝ }
-    requires are { ⌜ AreSteps ops rows rank (column-at ops member rows (now steps)) (row-at (now pivots)) ⌝ }
-    ensures { λ r. ⌜ Takes ops rows rank (column-at ops member rows (now (steps .entry))) (row-at (now (pivots .entry))) (at ops member (now (column .entry))) (column-at ops member rows (now (steps .exit))) (row-at (now (pivots .exit))) (at ops member (now (column .exit))) r ⌝ }
+    requires valid { ⌜ AreSteps ops rows rank (column-at ops member rows (now steps)) (entry-at (now pivots)) ⌝ }
+    ensures { λ r. ⌜ Takes ops rows rank (column-at ops member rows (now (steps .entry))) (entry-at (now (pivots .entry))) (at ops member (now (column .entry))) (column-at ops member rows (now (steps .exit))) (entry-at (now (pivots .exit))) (at ops member (now (column .exit))) r ⌝ }
 {
     reduce(rows, rank, steps, pivots, column);
     match find_pivot(column, rank) {
@@ -45,8 +46,8 @@ pub fn take_column_of<F: Field>(
     q: usize,
 ) -> bool
     requires room { ⌜ rows * rows ≤ length (now steps) ⌝ ∗ ⌜ rows ≤ length (now pivots) ⌝ ∗ ⌜ rows * q + rows ≤ length (now matrix) ⌝ }
-    requires are { ⌜ AreSteps ops rows rank (column-at ops member rows (now steps)) (row-at (now pivots)) ⌝ }
-    ensures takes { λ r. ⌜ Takes ops rows rank (column-at ops member rows (now (steps .entry))) (row-at (now (pivots .entry))) (column-at ops member rows (now (matrix .entry)) q) (column-at ops member rows (now (steps .exit))) (row-at (now (pivots .exit))) (column-at ops member rows (now (matrix .exit)) q) r ⌝ }
+    requires valid { ⌜ AreSteps ops rows rank (column-at ops member rows (now steps)) (entry-at (now pivots)) ⌝ }
+    ensures takes { λ r. ⌜ Takes ops rows rank (column-at ops member rows (now (steps .entry))) (entry-at (now (pivots .entry))) (column-at ops member rows (now (matrix .entry)) q) (column-at ops member rows (now (steps .exit))) (entry-at (now (pivots .exit))) (column-at ops member rows (now (matrix .exit)) q) r ⌝ }
     ensures before { λ _. ⌜ ((k : ℕ) → k < rows * q → at ops member (now (matrix .exit)) k ≡ at ops member (now (matrix .entry)) k) ⌝ }
     ensures behind { λ _. ⌜ ((k : ℕ) → rows * q + rows ≤ k → at ops member (now (matrix .exit)) k ≡ at ops member (now (matrix .entry)) k) ⌝ }
 {
@@ -57,4 +58,27 @@ pub fn take_column_of<F: Field>(
         pivots,
         &mut matrix[rows * q..rows * q + rows],
     )
+}
+
+// Reduces every column of a matrix, whose columns stand one behind the other. Answers the rank, and writes the places of the pivotal columns.
+pub fn eliminate<F: Field>(
+    rows: usize,
+    columns: usize,
+    matrix: &mut [F],
+    steps: &mut [F],
+    pivots: &mut [usize],
+    places: &mut [usize],
+) -> usize
+    requires room { ⌜ rows * columns ≤ length (now matrix) ⌝ ∗ ⌜ rows * rows ≤ length (now steps) ⌝ ∗ ⌜ rows ≤ length (now pivots) ⌝ ∗ ⌜ rows ≤ length (now places) ⌝ }
+    ensures echelon { λ rank. ⌜ Echelon ops rows (column-at ops member rows (now (matrix .entry))) columns rank (entry-at (now (places .exit))) ⌝ }
+    ensures relations { λ rank. ⌜ Relations ops rows (column-at ops member rows (now (matrix .entry))) (column-at ops member rows (now (matrix .exit))) columns rank (entry-at (now (places .exit))) ⌝ }
+{
+    let mut rank = 0;
+    for q in 0..columns {
+        if take_column_of(rows, rank, steps, pivots, matrix, q) {
+            places[rank] = q;
+            rank += 1;
+        }
+    }
+    rank
 }

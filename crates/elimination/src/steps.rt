@@ -4,7 +4,7 @@ ghost use Prim.Native.Nat.{ℕ, _+_, _*_, _<_, _≤_};
 ghost use lib.ListN.{length, take, drop};
 ghost use Rattle.std.specs.Options.{Cases};
 ghost use Rattle.tables.specs.Places.{at};
-ghost use Rattle.elimination.specs.Steps.{step as after-step, reduced, column-at, row-at, write, AreSteps, IsPivot};
+ghost use Rattle.elimination.specs.Steps.{step as after-step, reduced, column-at, entry-at, write, AreSteps, IsPivot};
 use fields::field::Field;
 
 // Takes x times the factors from the column, row by row.
@@ -43,8 +43,8 @@ fn factors<F: Field>(rows: usize, steps: &[F], t: usize) -> &[F]
 // Brings a column up to date by the steps found so far.
 pub fn reduce<F: Field>(rows: usize, rank: usize, steps: &[F], pivots: &[usize], column: &mut [F])
     requires room { ⌜ rows * rank ≤ length (now steps) ⌝ ∗ ⌜ rank ≤ length (now pivots) ⌝ ∗ ⌜ length (now column) ≡ rows ⌝ }
-    requires are { ⌜ AreSteps ops rows rank (column-at ops member rows (now steps)) (row-at (now pivots)) ⌝ }
-    ensures { λ _. ⌜ at ops member (now (column .exit)) ≡ reduced ops (column-at ops member rows (now (steps .entry))) (row-at (now (pivots .entry))) rank (at ops member (now (column .entry))) ⌝ }
+    requires valid { ⌜ AreSteps ops rows rank (column-at ops member rows (now steps)) (entry-at (now pivots)) ⌝ }
+    ensures { λ _. ⌜ at ops member (now (column .exit)) ≡ reduced ops (column-at ops member rows (now (steps .entry))) (entry-at (now (pivots .entry))) rank (at ops member (now (column .entry))) ⌝ }
 {
     for t in 0..rank {
         apply_step(factors(rows, steps, t), t, pivots[t], column);

@@ -1,22 +1,22 @@
 -- The row in the tables, one generator at a time. Main results: gather-step, monic-like, divide-step, highest-step, divided-by-gcd.
 use mathlib.Core.List.{List}
-use mathlib.Core.Logic.{_⊎_, inl, inr, _↔_}
-use mathlib.Core.Path.{_≡_, refl, sym, ap, ap₂, subst, _∙_}
+use mathlib.Core.Logic.{inl, inr}
+use mathlib.Core.Path.{_≡_, refl, sym, ap, subst, _∙_}
 use Prim.Native.Nat.{ℕ, suc, _+_, _-_, _*_, _<_, _≤_, max}
-use native.Mathlib.Decide.{decLt, decLe}
-use native.Mathlib.Nat.{not-suc-le-zero, le-max-left, le-max-right}
+use native.Mathlib.Decide.{decLt}
+use native.Mathlib.Nat.{not-suc-le-zero, le-max-right}
 use native.Mathlib.Omega.{arith}
 use borrow.Author.Count.{below-more}
 use Rattle.std.specs.declared.option.Option.{Option}
 use Rattle.std.specs.declared.option.Option.the-variants.{None, Some}
 use Rattle.algebra.specs.Rings.{RingOps, RingLaws, FieldLaws, IsField}
-use Rattle.algebra.specs.Series.{series, scale, Below, Degree, Polynomial}
-use Rattle.algebra.specs.Divisors.{Divides, Monic, MonicGcd, AllZero, DividedRow, VectorDegree}
+use Rattle.algebra.specs.Series.{series, scale, Below, Degree}
+use Rattle.algebra.specs.Divisors.{Divides, MonicGcd, AllZero, VectorDegree}
 use Rattle.algebra.proofs.Bounds as B
 use Rattle.algebra.proofs.Series as S
 use Rattle.algebra.proofs.Sums as Sums
-use Rattle.tables.specs.Places.{at, Within, Apart, Kept, KeptTwo, Cleared, poly-at}
-use Rattle.tables.specs.Polynomials.{DegreeOf}
+use Rattle.tables.specs.Places.{at, Within, Kept, KeptTwo, Cleared, poly-at}
+use Rattle.polynomials.specs.Polynomials.{DegreeOf}
 use Rattle.tables.proofs.Parts as P
 use Rattle.frames.specs.Common.{GcdOfPair, GcdOfFirst, MonicLike}
 use Rattle.frames.specs.Rows.{generator-in, gcd-in, quotient-in, ZeroOutside, Larger, Highest, DividedByGcd}
@@ -229,3 +229,7 @@ module _ {F R : Type 0} (o : RingOps R) (L : RingLaws o) (member : F → R) wher
       found (inl (z, s)) =
           absurd (monic-degree o laws (gcd-in o member xs) g e like .top (ap (λ (t : ℕ → R). t e)
           (zero-of-row o L n a g gcd (λ i l. sym (divided .0 i l) ∙ ap (series o .product g) (z i l) ∙ Sums.product-zero (series o) (S.series-laws o L) g))))
+
+pub larger-bound : {R : Type 0} (o : RingOps R) (f : ℕ → R) (d r : ℕ) (found : Option ℕ) → d ≤ 16 → DegreeOf o 17 f found → Larger d found r → r ≤ 16
+larger-bound o f d r None h degree is = omega arith
+larger-bound o f d r (Some k) h degree is = let l = degree .0 in omega arith

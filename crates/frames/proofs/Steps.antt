@@ -1,19 +1,19 @@
 -- The steps of the algorithms over a table. Main results: euclid-turn (one step of Euclid's algorithm), gcd-at-end.
 use mathlib.Core.List.{List}
-use mathlib.Core.Path.{_≡_, refl, sym, ap, ap₂, subst, _∙_}
-use Prim.Native.Nat.{ℕ, suc, _+_, _*_, _<_, _≤_}
+use mathlib.Core.Path.{_≡_, sym, subst, _∙_}
+use Prim.Native.Nat.{ℕ, suc, _+_, _<_, _≤_}
 use native.Mathlib.Decide.{decLt}
 use native.Mathlib.Omega.{arith}
 use Rattle.algebra.specs.Rings.{RingOps, RingLaws, IsField}
 use Rattle.algebra.specs.Series.{series, Below, Degree}
-use Rattle.algebra.specs.Divisors.{Division, Divides}
+use Rattle.algebra.specs.Divisors.{Divides}
 use Rattle.algebra.proofs.Bounds as B
 use Rattle.algebra.proofs.Series as S
 use Rattle.algebra.proofs.Sums as Sums
-use Rattle.tables.specs.Places.{at, Within, Apart, Kept, KeptTwo, poly-at}
-use Rattle.tables.specs.Polynomials.{LeavesRemainder}
+use Rattle.tables.specs.Places.{Apart, Kept, KeptTwo, poly-at}
+use Rattle.polynomials.specs.Polynomials.{LeavesRemainder}
 use Rattle.tables.proofs.Parts as P
-use Rattle.frames.specs.Common.{SameCommon, GcdOfPair, GcdOfFirst}
+use Rattle.frames.specs.Common.{SameCommon, GcdOfPair}
 use Rattle.frames.proofs.Common as C
 
 pub same-common-cong : {R : Type 0} (o : RingOps R) (f g p q f′ g′ p′ q′ : ℕ → R) → f ≡ f′ → g ≡ g′ → p ≡ p′ → q ≡ q′ → SameCommon o f′ g′ p′ q′ → SameCommon o f g p q

@@ -10,6 +10,10 @@ use Rattle.algebra.specs.Divisors.{MonicGcd, DividedRow, VectorDegree, AllZero}
 use Rattle.algebra.specs.Series.{Degree}
 use Rattle.tables.specs.Places.{at, Within, poly-at}
 
+-- polynomial i of those that stand one behind the other from base on
+abbrev pub row-in : {F R : Type 0} → RingOps R → (F → R) → List F → ℕ → ℕ → ℕ → R
+row-in o member table base i = poly-at o member table (base + 17 * i) 17
+
 -- generator i, in the table of generators
 abbrev pub generator-in : {F R : Type 0} → RingOps R → (F → R) → List F → ℕ → ℕ → R
 generator-in o member generators i = poly-at o member generators (17 * i) 17

@@ -1,14 +1,14 @@
 // Euclid's algorithm on two polynomials in a table.
 ghost use mathlib.Core.Path.{_≡_};
-ghost use Prim.Native.Nat.{ℕ, _+_, _<_, _≤_};
+ghost use Prim.Native.Nat.{_+_, _<_, _≤_};
 ghost use lib.ListN.{length};
 ghost use Rattle.algebra.specs.Series.{series, Below, Degree};
 ghost use Rattle.tables.specs.Places.{Apart, KeptTwo, poly-at};
 ghost use Rattle.frames.specs.Common.{GcdOfPair, SameCommon};
 use fields::field::Field;
+use polynomials::degree;
+use polynomials::reduce;
 use tables::cells::inverse_at;
-use tables::polynomials::degree;
-use tables::polynomials::reduce;
 use tables::rows::swap;
 
 // One step: the polynomial at right, of degree e, goes to left, and what it leaves of the other, which was below s^bound, to right.

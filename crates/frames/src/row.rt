@@ -1,5 +1,4 @@
 // The monic greatest common divisor of a row of generators, and the row divided by it, in a work table.
-ghost use mathlib.Core.Logic.{_⊎_};
 ghost use mathlib.Core.Path.{_≡_};
 ghost use Prim.Native.Nat.{ℕ, _+_, _*_, _<_, _≤_};
 ghost use lib.ListN.{length};
@@ -8,13 +7,13 @@ ghost use Rattle.algebra.specs.Divisors.{Divides, AllZero};
 ghost use Rattle.algebra.specs.Series.{series, Degree};
 ghost use Rattle.tables.specs.Places.{Cleared, Kept};
 ghost use Rattle.frames.specs.Common.{GcdOfFirst, MadeMonic};
-ghost use Rattle.frames.specs.Rows.{generator-in, gcd-in, quotient-in, ZeroOutside, Larger, Highest, DividedByGcd};
+ghost use Rattle.frames.specs.Rows.{generator-in, gcd-in, quotient-in, row-in, ZeroOutside, Larger, Highest, DividedByGcd};
 use crate::euclid::euclid;
 use fields::field::Field;
+use polynomials::degree;
+use polynomials::divide_exactly;
 use tables::cells::inverse_at;
 use tables::clear;
-use tables::polynomials::degree;
-use tables::polynomials::divide_exactly;
 use tables::rows::copy_from;
 use tables::rows::scale;
 
@@ -88,24 +87,19 @@ fn larger(d: usize, found: Option<usize>) -> usize
 {
     match found {
         None => d,
-        Some(k) => {
-            if k > d {
-                k
-            } else {
-                d
-            }
-        }
+        Some(k) => { if k > d { k } else { d } }
     }
 }
 
-// The highest degree of the divided row; 0 where every polynomial is zero.
-fn row_degree<F: Field>(n: usize, work: &[F]) -> usize
-    requires { ⌜ n ≤ 8 ⌝ ∗ ⌜ length (now work) ≡ 4521 ⌝ }
-    ensures { λ r. ⌜ Highest ops n (quotient-in ops member (now (work .entry))) r ⌝ }
+// The highest degree of n polynomials that stand one behind the other from a place on; 0 where every one is zero.
+pub fn row_degree<F: Field>(n: usize, table: &[F], base: usize) -> usize
+    requires { ⌜ base + 17 * n ≤ length (now table) ⌝ }
+    ensures value { λ r. ⌜ Highest ops n (row-in ops member (now (table .entry)) base) r ⌝ }
+    ensures bound { λ r. ⌜ r ≤ 16 ⌝ }
 {
     let mut d = 0;
     for i in 0..n {
-        d = larger(d, degree(work, ROW + WIDTH * i, WIDTH));
+        d = larger(d, degree(table, base + WIDTH * i, WIDTH));
     }
     d
 }
@@ -114,9 +108,7 @@ fn row_degree<F: Field>(n: usize, work: &[F]) -> usize
 // and answers their degrees; absent where every generator is zero.
 pub fn divide_by_gcd<F: Field>(n: usize, generators: &[F], work: &mut [F]) -> Option<Degrees>
     requires { ⌜ n ≤ 8 ⌝ ∗ ⌜ length (now generators) ≡ 136 ⌝ ∗ ⌜ length (now work) ≡ 4521 ⌝ }
-    ensures {
-        λ r. ⌜ Cases r (AllZero ops n (generator-in ops member (now (generators .entry))) × Cleared ops member (now (work .exit))) (λ d. DividedByGcd ops member n (now (generators .entry)) (now (work .exit)) (d .divisor) (d .row)) ⌝
-    }
+    ensures { λ r. ⌜ Cases r (AllZero ops n (generator-in ops member (now (generators .entry))) × Cleared ops member (now (work .exit))) (λ d. DividedByGcd ops member n (now (generators .entry)) (now (work .exit)) (d .divisor) (d .row)) ⌝ }
 {
     clear(work);
     gather(n, generators, work);
@@ -126,7 +118,7 @@ pub fn divide_by_gcd<F: Field>(n: usize, generators: &[F], work: &mut [F]) -> Op
             divide_row(n, generators, e, work);
             Some(Degrees {
                 divisor: e,
-                row: row_degree(n, work),
+                row: row_degree(n, work, ROW),
             })
         }
     }

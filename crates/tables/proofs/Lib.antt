@@ -1,4 +1,2 @@
-pub mod Divisions
-pub mod LongDivision
 pub mod Parts
 pub mod Places

@@ -1,17 +1,17 @@
 // Single places of a table.
 ghost use mathlib.Core.Path.{_≡_};
-ghost use Prim.Native.Nat.{ℕ, _+_, _<_};
+ghost use Prim.Native.Nat.{_<_};
 ghost use lib.ListN.{length};
 ghost use Rattle.algebra.specs.Rings.{Invertible};
 ghost use Rattle.tables.specs.Places.{at, Kept};
 use fields::field::Field;
 
 // Reads a place, as a coefficient of the polynomial that lies there.
-pub fn get<F: Field>(table: &[F], place: usize) -> F
-    requires { ⌜ place < length (now table) ⌝ }
-    ensures { λ r. ⌜ member r ≡ at ops member (now (table .entry)) place ⌝ }
+pub fn get<F: Field>(table: &[F], k: usize) -> F
+    requires { ⌜ k < length (now table) ⌝ }
+    ensures { λ r. ⌜ member r ≡ at ops member (now (table .entry)) k ⌝ }
 {
-    table[place]
+    table[k]
 }
 
 // Writes a place.

@@ -1,11 +1,8 @@
 // Lent tables of elements, read by the members that they mean.
-ghost use mathlib.Core.Path.{_≡_};
-ghost use Prim.Native.Nat.{ℕ};
 ghost use Rattle.tables.specs.Places.{Cleared};
 use fields::field::Field;
 
 pub mod cells;
-pub mod polynomials;
 pub mod rows;
 
 // Sets every place to zero.

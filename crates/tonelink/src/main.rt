@@ -12,6 +12,9 @@ use design::draft::Draft;
 use fields::fault::RefusalText;
 use fields::fault::RefusalTextDisplay;
 use fields::field::Field;
+use frames::row::DIVISOR;
+use frames::row::ROW;
+use frames::row::divide_by_gcd;
 use history::perform::perform;
 use history::request::AnswerDisplay;
 use history::request::Request;
@@ -20,6 +23,8 @@ use nibbles::Nibble;
 use nibbles::NibbleField;
 use nibbles::quadratic::NibbleQuadratic;
 use pairs::PairField;
+use polynomial::PolynomialText;
+use polynomial::PolynomialTextDisplay;
 use polynomial::RowText;
 use polynomial::RowTextDisplay;
 use std::error::AnyError;
@@ -47,6 +52,13 @@ const DESIGN: [Request; 3] = [
         power: 1,
         code: 1,
     },
+];
+
+// The design (s^2, s + s^2).
+const SHARED: [Request; 3] = [
+    Request::Put { i: 0, power: 2, code: 1 },
+    Request::Put { i: 1, power: 1, code: 1 },
+    Request::Put { i: 1, power: 2, code: 1 },
 ];
 
 // Two slips of the hand.
@@ -100,7 +112,36 @@ fn walk(rt: &LibcRuntime) -> Result<(), AnyError> {
     println!(rt, "Two slips of the hand are refused, and change nothing:")?;
     let draft = enter(rt, draft, &mut table, &SLIPS)?;
     keep(rt, &draft, &table)?;
+    factor(rt)?;
     show_products(rt)
+}
+
+// Prints the divisor that the generators of a design share, and the row divided by it.
+fn show_divisor(rt: &LibcRuntime, table: &[Tone], work: &mut [Tone]) -> Result<(), AnyError> {
+    if table.len() != 136 || work.len() != 4521 {
+        return Err("a table has not its length".into());
+    }
+    match divide_by_gcd(2, table, work) {
+        Some(_) => {
+            let divisor = PolynomialText { coefficients: &work[DIVISOR..ROW] };
+            let row = RowText { n: 2, table: &work[ROW..4521] };
+            println!(rt, "Its divisor is {divisor}, and divided by it the row is ({row}).")?;
+        }
+        None => println!(rt, "Every generator is zero.")?,
+    }
+    Ok(())
+}
+
+// A design whose generators have a common factor.
+fn factor(rt: &LibcRuntime) -> Result<(), AnyError> {
+    let mut table = [Tone::T0; 136];
+    let mut work = [Tone::T0; 4521];
+    let Ok(draft) = Draft::begin(2, &mut table) else {
+        return Err("begin was refused".into());
+    };
+    println!(rt, "Another design is entered, whose generators have a common factor:")?;
+    let _ = enter(rt, draft, &mut table, &SHARED)?;
+    show_divisor(rt, &table, &mut work)
 }
 
 // Reads a card and prints what came of it.

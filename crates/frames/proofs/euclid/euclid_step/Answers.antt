@@ -1,7 +1,7 @@
 use mathlib.Core.Path.{_∙_}
 use native.Mathlib.Omega.{arith}
 use Rattle.tables.proofs.Parts.{poly-at-in}
-use Rattle.tables.proofs.Divisions.{is-field}
+use Rattle.polynomials.proofs.Divisions.{is-field}
 use Rattle.frames.proofs.Steps.{euclid-turn}
 use Rattle.frames.proofs.euclid.euclid_step.Needs as need
 

@@ -30,4 +30,4 @@ pub returns-in-Some : need.returns-in-Some
 returns-in-Some g c =
     let f = g .F·Field in
     divided-by-gcd (f .ops) (g .F·Field·met .laws .ring) (f .member) (g .F·Field·met .laws) (c .args .n) (c .in-Some .e) (c .row-degree .result) (c .args .generators .now) (c .gather .last .work) (c .make-monic .last .work) (c .divide-row .last .work)
-    (c .gather .ensures .divisors) (c .in-Some .ensures tt .monic) (c .divide-row .ensures .row, c .divide-row .ensures .same, c .divide-row .ensures .rest) (c .row-degree .ensures)
+    (c .gather .ensures .divisors) (c .in-Some .ensures tt .monic) (c .divide-row .ensures .row, c .divide-row .ensures .same, c .divide-row .ensures .rest) (c .row-degree .ensures .value)

@@ -1,6 +1,6 @@
 use mathlib.Core.Path.{_∙_}
 use native.Mathlib.Omega.{arith}
-use Rattle.tables.proofs.Divisions.{is-field}
+use Rattle.polynomials.proofs.Divisions.{is-field}
 use Rattle.tables.proofs.Parts.{poly-at-in}
 use Rattle.frames.proofs.RowSteps.{monic-like}
 use Rattle.frames.proofs.row.make_monic.Needs as need

@@ -1,0 +1,2 @@
+pub mod ColumnDegrees
+pub mod Whole

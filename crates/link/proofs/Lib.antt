@@ -1,0 +1,4 @@
+pub mod Cleanness
+pub mod Guarantees
+pub mod Streams
+pub mod Terms
