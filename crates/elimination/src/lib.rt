@@ -102,8 +102,7 @@ pub fn eliminate<F: Field>(
 {
     let mut rank = 0;
     for q in 0..columns {
-        if take_column_of(rows, rank, steps, pivots, matrix, q) {
-            places[rank] = q;
+        if take_next(rows, rank, steps, pivots, places, matrix, q, q) {
             rank += 1;
         }
     }
