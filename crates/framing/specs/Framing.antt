@@ -1,7 +1,7 @@
 -- A frame in its table: the columns, the divisor, and the column degrees packed into one number. The clauses of the crate cite it; it assumes nothing.
 use mathlib.Core.List.{List, [], _∷_}
 use mathlib.Core.Path.{_≡_}
-use Prim.Native.Nat.{ℕ, _+_, _*_, _-_, _<_}
+use Prim.Native.Nat.{ℕ, _+_, _*_, _-_, _<_, _≤_}
 use lib.ListN.{length, getD}
 use Rattle.algebra.specs.Rings.{RingOps}
 use Rattle.algebra.specs.Divisors.{VectorDegree}

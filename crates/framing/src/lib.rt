@@ -9,11 +9,9 @@ ghost use Rattle.tables.specs.Places.{Cleared};
 ghost use Rattle.framing.specs.Framing.{HoldsFrame};
 use crate::packing::pack_degrees;
 use fields::field::Field;
-use frames::row::DIVISOR;
 use frames::row::divide_by_gcd;
-use scan::write_columns;
+use scan::write_frame;
 use tables::clear;
-use tables::rows::copy_from;
 
 mod packing;
 
@@ -26,7 +24,7 @@ pub struct Numbers {
 }
 
 // Writes the frame of the first n generators, absent where they are all zero, and leaves the work table at zero.
-pub fn write_frame<F: Field>(n: usize, generators: &[F], frame: &mut [F], work: &mut [F]) -> Option<Numbers>
+pub fn frame_row<F: Field>(n: usize, generators: &[F], frame: &mut [F], work: &mut [F]) -> Option<Numbers>
     requires sized { ⌜ 2 ≤ n ⌝ ∗ ⌜ n ≤ 8 ⌝ }
     requires room { ⌜ length (now generators) ≡ 136 ⌝ ∗ ⌜ length (now frame) ≡ 1105 ⌝ ∗ ⌜ length (now work) ≡ 4521 ⌝ }
     ensures answer { λ r. ⌜ Cases r (AllZero ops n (generator-in ops member (now (generators .entry))) × (now (frame .exit) ≡ now (frame .entry))) (λ x. HoldsFrame ops member n (now (generators .entry)) (now (frame .exit)) (x .degree) (x .divisor) (x .columns)) ⌝ }
@@ -36,8 +34,7 @@ pub fn write_frame<F: Field>(n: usize, generators: &[F], frame: &mut [F], work: 
     match divide_by_gcd(n, generators, work) {
         None => None,
         Some(degrees) => {
-            copy_from(work, DIVISOR, frame, 1088, 17);
-            write_columns(n, degrees.row, work, frame);
+            write_frame(n, degrees.row, work, frame);
             clear(work);
             Some(Numbers {
                 degree: degrees.row,

@@ -14,7 +14,7 @@ use Rattle.algebra.specs.Divisors.{Combination, VectorDegree}
 use Rattle.algebra.specs.Places.{place-list}
 use Rattle.algebra.specs.Frames.{FrameColumns}
 use Rattle.tables.specs.Places.{at}
-use Rattle.elimination.specs.Steps.{write, column-at, row-at, reduced, Takes, IsSum}
+use Rattle.elimination.specs.Steps.{write, column-at, entry-at, reduced, Takes, IsSum}
 use Rattle.elimination.proofs.StepMaps.{write-same, write-other}
 use Rattle.elimination.proofs.Tables.{front-ext}
 use Rattle.scan.specs.Columns.{column-in, AtPlaces, CheckAt, Rising}
@@ -35,15 +35,15 @@ module _ {F M : Type 0} (o : RingOps M) (field : IsField o) (member : F → M) (
   walked-start steps pivots places found frame none zero = record {
     B = λ j. 0;
     E = λ j t. o .zero;
-    scanned = Scans.start o field d r n positive v (row-at places) (λ j. 0) (λ j t. o .zero) (mark-at found) (λ i l. none i (omega arith));
+    scanned = Scans.start o field d r n positive v (entry-at places) (λ j. 0) (λ j t. o .zero) (mark-at found) (λ i l. none i (omega arith));
     are = λ t l. absurd (not-suc-le-zero l);
     reduces = λ t l. absurd (not-suc-le-zero l);
-    written = written-start o L member n d (row-at places) (λ j. 0) (λ j t. o .zero) frame zero;
+    written = written-start o L member n d (entry-at places) (λ j. 0) (λ j t. o .zero) frame zero;
   }
 
   module _ (q rank b : ℕ) (steps : List F) (pivots places : List ℕ) (found : List Bool) (frame : List F) (w : Walked o member n d rows r q rank b steps pivots places found frame) where
     abbrev P : ℕ → ℕ
-    P = row-at places
+    P = entry-at places
 
     abbrev V : ℕ → ℕ → M
     V t = place-list o n r (P t)
@@ -66,7 +66,7 @@ module _ {F M : Type 0} (o : RingOps M) (field : IsField o) (member : F → M) (
 
     -- after the list at q was taken
     module _ (next : List F) (nexts : List ℕ) (c R : ℕ → M) (list : (k : ℕ) → k < rows → c k ≡ place-list o n r q k) where
-      pub walked-pivot : length places ≡ 33 → Takes o rows rank (column-at o member rows steps) (row-at pivots) c (column-at o member rows next) (row-at nexts) R true
+      pub walked-pivot : length places ≡ 33 → Takes o rows rank (column-at o member rows steps) (entry-at pivots) c (column-at o member rows next) (entry-at nexts) R true
           → (rank < 33) × Walked o member n d rows r (suc q) (suc rank) b next nexts (set places rank q) found frame
       walked-pivot long takes = (
         omega (arith, room),
@@ -74,8 +74,8 @@ module _ {F M : Type 0} (o : RingOps M) (field : IsField o) (member : F → M) (
           B = w .B;
           E = w .E;
           scanned = Scans.pivot o field d r n positive v q rank P b (w .B) (w .E) (mark-at found) (w .scanned) Q same here new;
-          are = takes .are;
-          reduces = λ t l. ap (reduced o (column-at o member rows next) (row-at nexts) (suc rank)) (front-ext o rows (place-list o n r (Q t)) (write rank c V t) (same-list t l)) ∙ takes .reduces V (w .reduces) t l;
+          are = takes .valid;
+          reduces = λ t l. ap (reduced o (column-at o member rows next) (entry-at nexts) (suc rank)) (front-ext o rows (place-list o n r (Q t)) (write rank c V t) (same-list t l)) ∙ takes .reduces V (w .reduces) t l;
           written = written-pivot o L member n d r q rank P b (w .B) (w .E) (mark-at found) frame (w .scanned) (w .written) Q same here room;
         },
       )
@@ -87,7 +87,7 @@ module _ {F M : Type 0} (o : RingOps M) (field : IsField o) (member : F → M) (
           room = Scans.pivot-room o field d r n positive v q rank P b (w .B) (w .E) (mark-at found) (w .scanned) new
 
           Q : ℕ → ℕ
-          Q = row-at (set places rank q)
+          Q = entry-at (set places rank q)
 
           same : (t : ℕ) → t < rank → Q t ≡ P t
           same t l = getD-set-other places rank t q 0 (λ e. omega arith)
@@ -105,11 +105,11 @@ module _ {F M : Type 0} (o : RingOps M) (field : IsField o) (member : F → M) (
       pub sum-made : IsSum o rows rank V c R → Scans.Made o field d r n rank P (place-list o n r q)
       sum-made sum = record { factor = R; inside = λ j l. tt; is = λ k l. sym (list k (omega arith)) ∙ sum .is k (omega arith) }
 
-      pub check-room : mark-at found (q % n) ≡ false → q < n * suc d → Takes o rows rank (column-at o member rows steps) (row-at pivots) c (column-at o member rows next) (row-at nexts) R false → suc b < n
+      pub check-room : mark-at found (q % n) ≡ false → q < n * suc d → Takes o rows rank (column-at o member rows steps) (entry-at pivots) c (column-at o member rows next) (entry-at nexts) R false → suc b < n
       check-room unknown inside takes = Scans.basic-room o field d r n positive v q rank P b (w .B) (w .E) (mark-at found) (w .scanned) inside unknown (sum-made (takes .judged V (w .reduces)))
 
       pub walked-basic : (after : List F) → length found ≡ 8 → mark-at found (q % n) ≡ false → q < n * suc d
-          → Takes o rows rank (column-at o member rows steps) (row-at pivots) c (column-at o member rows next) (row-at nexts) R false
+          → Takes o rows rank (column-at o member rows steps) (entry-at pivots) c (column-at o member rows next) (entry-at nexts) R false
           → CheckAt o member n (suc b) q rank P (λ t. o .negative (R t)) frame after
           → Walked o member n d rows r (suc q) rank (suc b) next nexts places (set found (q % n) true) after
       walked-basic after long unknown inside takes check = record {
@@ -120,7 +120,7 @@ module _ {F M : Type 0} (o : RingOps M) (field : IsField o) (member : F → M) (
             (λ i l ne. getD-set-other found (q % n) i true false ne) (let x = mod-lt q positive in getD-set-same found (q % n) true false (omega arith))
             inside unknown
             (λ k l. sym (list k (omega arith)) ∙ sum .is k (omega arith) ∙ ap (λ (f : ℕ → M). total o rank (λ t. o .product (f t) (V t k))) (sym new));
-        are = takes .are;
+        are = takes .valid;
         reduces = takes .reduces V (w .reduces);
         written = written-basic o L member n d r q rank P b (w .B) (w .E) (mark-at found) frame (w .scanned) (w .written) positive small low (let x = inside in omega arith) C D (λ t. o .negative (R t)) after
             same here multipliers (λ t l. ap (λ (f : ℕ → M). o .negative (f t)) (sym new)) (let x = check-room unknown inside takes in omega arith) inside check;
@@ -150,25 +150,25 @@ module _ {F M : Type 0} (o : RingOps M) (field : IsField o) (member : F → M) (
   -- at the end of the walk, the unit list was taken and column 0 written
   module _ (rank b : ℕ) (steps : List F) (pivots places : List ℕ) (found : List Bool) (frame : List F) (w : Walked o member n d rows r (n * suc d) rank b steps pivots places found frame)
       (coprime : Combination o n r (series o .one)) (e : ℕ → ℕ → M) (p : ℕ → ℕ) (c R : ℕ → M) (unit : (k : ℕ) → c k ≡ series o .one k) where
-    unit-sum : (pivotal : Bool) → Takes o rows rank (column-at o member rows steps) (row-at pivots) c e p R pivotal → IsSum o rows rank (λ t. place-list o n r (row-at places t)) c R
+    unit-sum : (pivotal : Bool) → Takes o rows rank (column-at o member rows steps) (entry-at pivots) c e p R pivotal → IsSum o rows rank (λ t. place-list o n r (entry-at places t)) c R
     unit-sum true takes =
-        let x = Scans.unit-made o field d r n positive v rank (row-at places) b (w .B) (w .E) (mark-at found) (w .scanned) coprime in
-        absurd (takes .judged (λ t. place-list o n r (row-at places t)) (w .reduces) (record { factor = x .factor; inside = λ j l. tt; is = λ k l. unit k ∙ x .is k (omega arith) }))
-    unit-sum false takes = takes .judged (λ t. place-list o n r (row-at places t)) (w .reduces)
+        let x = Scans.unit-made o field d r n positive v rank (entry-at places) b (w .B) (w .E) (mark-at found) (w .scanned) coprime in
+        absurd (takes .judged (λ t. place-list o n r (entry-at places t)) (w .reduces) (record { factor = x .factor; inside = λ j l. tt; is = λ k l. unit k ∙ x .is k (omega arith) }))
+    unit-sum false takes = takes .judged (λ t. place-list o n r (entry-at places t)) (w .reduces)
 
-    pub columns-written : (pivotal : Bool) → Takes o rows rank (column-at o member rows steps) (row-at pivots) c e p R pivotal
-        → (after : List F) → AtPlaces o member n 0 rank (row-at places) R frame after
+    pub columns-written : (pivotal : Bool) → Takes o rows rank (column-at o member rows steps) (entry-at pivots) c e p R pivotal
+        → (after : List F) → AtPlaces o member n 0 rank (entry-at places) R frame after
         → ((B : ℕ → ℕ) × FrameColumns o (n - 1) d r B (column-in o member after))
         × ((j i k : ℕ) → j < 8 → i < 8 → k < 17 → (j < n → i < n → ⊥) → at o member after (136 * j + 17 * i + k) ≡ o .zero)
     columns-written pivotal takes after first =
         let sum = unit-sum pivotal takes in
-        let all = Scans.all-found o field d r n positive v rank (row-at places) b (w .B) (w .E) (mark-at found) (w .scanned) in (
+        let all = Scans.all-found o field d r n positive v rank (entry-at places) b (w .B) (w .E) (mark-at found) (w .scanned) in (
           (
             w .B,
-            Scans.frame-columns o field d r n positive v rank (row-at places) b (w .B) (w .E) (mark-at found) (w .scanned) R (column-in o member after)
+            Scans.frame-columns o field d r n positive v rank (entry-at places) b (w .B) (w .E) (mark-at found) (w .scanned) R (column-in o member after)
                 (λ k l. sym (unit k) ∙ sum .is k (omega arith))
-                (read-off-written o L member n d r (n * suc d) rank (row-at places) b (w .B) (w .E) (mark-at found) frame (w .scanned) (w .written) positive small low (le-refl (n * suc d)) R after first),
+                (read-off-written o L member n d r (n * suc d) rank (entry-at places) b (w .B) (w .E) (mark-at found) frame (w .scanned) (w .written) positive small low (le-refl (n * suc d)) R after first),
           ),
-          λ j i k g h l ne. rest-written o L member n d r (n * suc d) rank (row-at places) b (w .B) (w .E) (mark-at found) frame (w .scanned) (w .written) positive small low (le-refl (n * suc d)) R after first j i k g h l
+          λ j i k g h l ne. rest-written o L member n d r (n * suc d) rank (entry-at places) b (w .B) (w .E) (mark-at found) frame (w .scanned) (w .written) positive small low (le-refl (n * suc d)) R after first j i k g h l
               (λ x y. ne (omega arith) y),
         )

@@ -8,7 +8,7 @@ use Rattle.algebra.specs.Rings.{RingOps}
 use Rattle.algebra.specs.Places.{place-list}
 use Rattle.algebra.specs.Scanning.{Scanned, AtPivots}
 use Rattle.tables.specs.Places.{at}
-use Rattle.elimination.specs.Steps.{column-at, row-at, AreSteps, Reduces}
+use Rattle.elimination.specs.Steps.{column-at, entry-at, AreSteps, Reduces}
 use Rattle.scan.specs.Columns.{column-in}
 
 -- whether a class is marked
@@ -26,7 +26,7 @@ pub record Written {F M : Type 0} (o : RingOps M) (member : F → M) (n d rank :
 pub record Walked {F M : Type 0} (o : RingOps M) (member : F → M) (n d rows : ℕ) (r : ℕ → ℕ → M) (q rank b : ℕ) (steps : List F) (pivots places : List ℕ) (found : List Bool) (frame : List F) : Type 0 where
   pub B : ℕ → ℕ
   pub E : ℕ → ℕ → M
-  pub scanned : Scanned o n d r q rank (row-at places) b B E (mark-at found)
-  pub are : AreSteps o rows rank (column-at o member rows steps) (row-at pivots)
-  pub reduces : Reduces o rows rank (column-at o member rows steps) (row-at pivots) (λ t. place-list o n r (row-at places t))
-  pub written : Written o member n d rank (row-at places) b B E frame
+  pub scanned : Scanned o n d r q rank (entry-at places) b B E (mark-at found)
+  pub are : AreSteps o rows rank (column-at o member rows steps) (entry-at pivots)
+  pub reduces : Reduces o rows rank (column-at o member rows steps) (entry-at pivots) (λ t. place-list o n r (entry-at places t))
+  pub written : Written o member n d rank (entry-at places) b B E frame

@@ -2,7 +2,7 @@
 ghost use mathlib.Core.Path.{_≡_};
 ghost use Prim.Native.Nat.{ℕ, _+_, _*_, _<_, _≤_};
 ghost use lib.ListN.{length};
-ghost use Rattle.elimination.specs.Steps.{row-at};
+ghost use Rattle.elimination.specs.Steps.{entry-at};
 ghost use Rattle.tables.specs.Places.{at, Kept};
 ghost use Rattle.scan.specs.Columns.{cell, AtPlaces, CheckAt, Rising};
 use fields::field::Field;
@@ -30,8 +30,8 @@ pub fn write_at<F: Field>(
 )
     requires sized { ⌜ 0 < n ⌝ ∗ ⌜ n ≤ 8 ⌝ ∗ ⌜ j < 8 ⌝ }
     requires room { ⌜ rank ≤ length (now places) ⌝ ∗ ⌜ rank ≤ length (now list) ⌝ ∗ ⌜ length (now frame) ≡ 1105 ⌝ }
-    requires rising { ⌜ Rising n rank (row-at (now places)) ⌝ }
-    ensures written { λ _. ⌜ AtPlaces ops member n j rank (row-at (now (places .entry))) (at ops member (now (list .entry))) (now (frame .entry)) (now (frame .exit)) ⌝ }
+    requires rising { ⌜ Rising n rank (entry-at (now places)) ⌝ }
+    ensures written { λ _. ⌜ AtPlaces ops member n j rank (entry-at (now (places .entry))) (at ops member (now (list .entry))) (now (frame .entry)) (now (frame .exit)) ⌝ }
     ensures behind { λ _. ⌜ ((k : ℕ) → 1088 ≤ k → at ops member (now (frame .exit)) k ≡ at ops member (now (frame .entry)) k) ⌝ }
 {
     for t in 0..rank {
@@ -60,9 +60,9 @@ pub fn write_check<F: Field>(
 )
     requires sized { ⌜ 0 < n ⌝ ∗ ⌜ n ≤ 8 ⌝ ∗ ⌜ j < 8 ⌝ }
     requires room { ⌜ q < n * 17 ⌝ ∗ ⌜ rank ≤ length (now places) ⌝ ∗ ⌜ rank ≤ length (now column) ⌝ ∗ ⌜ length (now frame) ≡ 1105 ⌝ }
-    requires rising { ⌜ Rising n rank (row-at (now places)) ⌝ }
-    requires before { ⌜ ((t : ℕ) → t < rank → row-at (now places) t < q) ⌝ }
-    ensures written { λ _. ⌜ CheckAt ops member n j q rank (row-at (now (places .entry))) (λ t. ops .negative (at ops member (now (column .entry)) t)) (now (frame .entry)) (now (frame .exit)) ⌝ }
+    requires rising { ⌜ Rising n rank (entry-at (now places)) ⌝ }
+    requires before { ⌜ ((t : ℕ) → t < rank → entry-at (now places) t < q) ⌝ }
+    ensures written { λ _. ⌜ CheckAt ops member n j q rank (entry-at (now (places .entry))) (λ t. ops .negative (at ops member (now (column .entry)) t)) (now (frame .entry)) (now (frame .exit)) ⌝ }
     ensures behind { λ _. ⌜ ((k : ℕ) → 1088 ≤ k → at ops member (now (frame .exit)) k ≡ at ops member (now (frame .entry)) k) ⌝ }
 {
     negate_all(column);

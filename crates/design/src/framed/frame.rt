@@ -7,7 +7,7 @@ use crate::fault::DesignFault;
 use crate::fault::HandedBack;
 use crate::framed::Framed;
 use fields::field::Field;
-use framing::write_frame;
+use framing::frame_row;
 
 impl Draft {
     // Writes the degree-optimal frame of the generators and gives the framed design; refused, it hands the draft back.
@@ -22,7 +22,7 @@ impl Draft {
             });
         }
         let _ = F::one().inverse();
-        match write_frame(self.count(), generators, frame, work) {
+        match frame_row(self.count(), generators, frame, work) {
             None => Err(HandedBack {
                 design: self,
                 fault: DesignFault::AllZero,

@@ -3,7 +3,7 @@ use Prim.Native.Nat.{ℕ, suc, _*_}
 use native.Mathlib.Numerals.{add-one}
 use native.Mathlib.Omega.{arith}
 use Rattle.frames.specs.Rows.{generator-in}
-use Rattle.tables.proofs.Divisions.{is-field}
+use Rattle.polynomials.proofs.Divisions.{is-field}
 use Rattle.scan.specs.Walked.{Walked}
 use Rattle.scan.proofs.Walking.{walked-start}
 use Rattle.scan.proofs.walk.walk.Needs as need

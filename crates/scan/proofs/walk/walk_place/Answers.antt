@@ -2,10 +2,10 @@ use mathlib.Core.Path.{refl}
 use Prim.Native.Nat.{suc, _<_, _≤_}
 use native.Mathlib.Numerals.{add-one}
 use native.Mathlib.Omega.{arith}
-use Rattle.elimination.specs.Steps.{row-at}
+use Rattle.elimination.specs.Steps.{entry-at}
 use Rattle.frames.specs.Rows.{generator-in}
 use Rattle.tables.specs.Places.{at}
-use Rattle.tables.proofs.Divisions.{is-field}
+use Rattle.polynomials.proofs.Divisions.{is-field}
 use Rattle.scan.specs.Columns.{CheckAt}
 use Rattle.scan.proofs.FrameTables.{within-all}
 use Rattle.scan.proofs.Walking as Walking
@@ -23,7 +23,7 @@ returns-then-found-q g c =
     }
 
 pub take-column-requires : need.take-column-requires
-take-column-requires g c κs = record { room = (omega (arith, Walking.steps-room (c .args .rows) (omega arith)), (omega arith, omega arith)); are = c .pre .walked .are }
+take-column-requires g c κs = record { room = (omega (arith, Walking.steps-room (c .args .rows) (omega arith)), (omega arith, omega arith)); valid = c .pre .walked .are }
 
 pub returns-then-take-column : need.returns-then-take-column
 returns-then-take-column g c =
@@ -72,7 +72,7 @@ returns g c =
     let f = g .F·Field in
     let laws = g .F·Field·met in
     let a = c .args in
-    let check : CheckAt (f .ops) (f .member) (a .n) (suc (a .counts .basics)) (a .q) (a .counts .rank) (row-at (a .places .now)) (λ t. f .ops .negative (at (f .ops) (f .member) (c .take-column .last .column) t)) (a .frame .now) (c .write-check .last .frame) =
+    let check : CheckAt (f .ops) (f .member) (a .n) (suc (a .counts .basics)) (a .q) (a .counts .rank) (entry-at (a .places .now)) (λ t. f .ops .negative (at (f .ops) (f .member) (c .take-column .last .column) t)) (a .frame .now) (c .write-check .last .frame) =
     rw add-one at (c .write-check .ensures .written) in
     let moved =
     Walking.walked-basic (f .ops) (is-field (laws .laws) (laws .numbered) (c .pre .field)) (f .member) (a .n) (a .d) (a .rows) (generator-in (f .ops) (f .member) (a .row .now)) (c .pre .sized .0) (c .pre .sized .1 .0) (c .pre .sized .1 .1 .0) (c .pre .sized .1 .1 .1 .0) (c .pre .degree)
