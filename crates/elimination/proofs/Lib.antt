@@ -4,4 +4,5 @@ pub mod Tables
 pub mod Relations
 pub mod Taking
 pub mod Echelons
+pub mod Next
 pub mod Whole

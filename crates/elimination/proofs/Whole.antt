@@ -1,5 +1,5 @@
 -- A whole matrix, column by column.
-use mathlib.Core.Bool.{true, false}
+use mathlib.Core.Bool.{Bool, true, false}
 use mathlib.Core.List.{List}
 use mathlib.Core.Path.{_≡_, refl, ap, _∙_}
 use Prim.Native.Nat.{ℕ, suc, _+_, _*_, _<_, _≤_}
@@ -7,13 +7,13 @@ use native.Mathlib.Nat.{mul-suc}
 use native.Mathlib.Numerals.{add-one}
 use native.Mathlib.Omega.{arith}
 use lib.ListN.{length, set}
-use lib.Seq.{getD-set-same, getD-set-other}
 use Rattle.algebra.specs.Rings.{RingOps, RingLaws}
 use Rattle.tables.specs.Places.{at}
-use Rattle.elimination.specs.Steps.{column-at, entry-at, Takes}
-use Rattle.elimination.specs.Echelon.{Relations, Eliminated}
+use Rattle.elimination.specs.Steps.{column-at, entry-at, rank-after}
+use Rattle.elimination.specs.Echelon.{Relations, Eliminated, TakesNext, places-after}
 use Rattle.elimination.proofs.Tables.{front-ext, columns-same}
 use Rattle.elimination.proofs.Echelons as E
+use Rattle.elimination.proofs.Next.{place-new, place-old}
 
 -- after q columns of the matrix start
 pub record Progress {F M : Type 0} (o : RingOps M) (m : F → M) (rows : ℕ) (start : List F) (q rank : ℕ) (steps : List F) (pivots places : List ℕ) (matrix : List F) : Type 0 where
@@ -44,23 +44,14 @@ module _ {F M : Type 0} (o : RingOps M) (m : F → M) (L : RingLaws o) (rows : �
     left-more : (k : ℕ) → rows * suc q ≤ k → at o m now k ≡ at o m start k
     left-more k h = let l : rows * q + rows ≤ k = omega (arith, mul-suc rows q) in behind k l ∙ X .left k (omega arith)
 
-    pub progress-spanned : Takes o rows rank (column-at o m rows steps) (entry-at pivots) (column-at o m rows matrix q) (column-at o m rows after) (entry-at rows-after) (column-at o m rows now q) false → Progress o m rows start (q + 1) rank after rows-after places now
-    progress-spanned T = rw (add-one q) (record {
-      eliminated = E.eliminated-spanned o L rows W q rank (column-at o m rows steps) (entry-at pivots) (entry-at places) (X .eliminated) (column-at o m rows matrix q) column-new (column-at o m rows after) (entry-at rows-after) (column-at o m rows now q) T;
-      relations = E.relations-spanned o L rows W (column-at o m rows matrix) (column-at o m rows now) q rank (entry-at places) (X .eliminated .echelon) columns-old (X .relations)
-          (E.sum-of-column o L rows W q rank (column-at o m rows steps) (entry-at pivots) (entry-at places) (X .eliminated) (column-at o m rows matrix q) column-new (column-at o m rows after) (entry-at rows-after) (column-at o m rows now q) T);
+    pub progress-more : (pivotal : Bool) → rank-after rank pivotal ≤ rows → rows ≤ length places → TakesNext o rows q rank (column-at o m rows steps) (entry-at pivots) places (column-at o m rows matrix q) (column-at o m rows after) (entry-at rows-after) (column-at o m rows now q) pivotal → Progress o m rows start (q + 1) (rank-after rank pivotal) after rows-after (places-after rank q places pivotal) now
+    progress-more true bound room T = rw (add-one q) (record {
+      eliminated = T .eliminated W column-new (X .eliminated);
+      relations = E.relations-pivotal o L rows W (column-at o m rows matrix) (column-at o m rows now) q rank (entry-at places) (X .eliminated .echelon) columns-old (X .relations) (entry-at (set places rank q)) (place-old rank q places) (place-new rank q places (omega arith));
       left = left-more;
     })
-
-    pub progress-pivotal : rank < length places → Takes o rows rank (column-at o m rows steps) (entry-at pivots) (column-at o m rows matrix q) (column-at o m rows after) (entry-at rows-after) (column-at o m rows now q) true → Progress o m rows start (q + 1) (rank + 1) after rows-after (set places rank q) now
-    progress-pivotal room T = rw (add-one q, add-one rank) (record {
-      eliminated = E.eliminated-pivotal o L rows W q rank (column-at o m rows steps) (entry-at pivots) (entry-at places) (X .eliminated) (column-at o m rows matrix q) column-new (column-at o m rows after) (entry-at rows-after) (column-at o m rows now q) (entry-at (set places rank q)) old new T;
-      relations = E.relations-pivotal o L rows W (column-at o m rows matrix) (column-at o m rows now) q rank (entry-at places) (X .eliminated .echelon) columns-old (X .relations) (entry-at (set places rank q)) old new;
+    progress-more false bound room T = rw (add-one q) (record {
+      eliminated = T .eliminated W column-new (X .eliminated);
+      relations = E.relations-spanned o L rows W (column-at o m rows matrix) (column-at o m rows now) q rank (entry-at places) (X .eliminated .echelon) columns-old (X .relations) (T .judged W column-new (X .eliminated));
       left = left-more;
     })
-      where
-        new : entry-at (set places rank q) rank ≡ q
-        new = getD-set-same places rank q 0 room
-
-        old : (t : ℕ) → t < rank → entry-at (set places rank q) t ≡ entry-at places t
-        old t h = getD-set-other places rank t q 0 (λ e. omega arith)

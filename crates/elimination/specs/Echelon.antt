@@ -1,10 +1,13 @@
 -- What elimination finds out about the columns W 0, W 1, .. taken so far: which are pivotal, and how the others are sums of multiples of these.
+use mathlib.Core.Bool.{Bool, true, false}
+use mathlib.Core.List.{List}
 use mathlib.Core.Path.{_≡_}
-use Prim.Native.Nat.{ℕ, _≤_, _<_}
+use Prim.Native.Nat.{ℕ, suc, _≤_, _<_}
+use lib.ListN.{set}
 use Rattle.algebra.specs.Rings.{RingOps}
 use Rattle.algebra.specs.Series.{total}
 use Rattle.algebra.specs.Independence.{All, Spanned, Independent}
-use Rattle.elimination.specs.Steps.{AreSteps, Reduces}
+use Rattle.elimination.specs.Steps.{AreSteps, Reduces, Judged, rank-after, entry-at}
 
 -- j is none of the places
 abbrev pub NoPlace : ℕ → (ℕ → ℕ) → ℕ → Type 0
@@ -32,3 +35,14 @@ pub record Eliminated {M : Type 0} (o : RingOps M) (rows : ℕ) (W : ℕ → ℕ
   pub valid : AreSteps o rows rank e p
   pub turns : Reduces o rows rank e p (λ t. W (place t))
   pub echelon : Echelon o rows W q rank place
+
+-- the list of places after column q, by whether it is pivotal
+abbrev pub places-after : ℕ → ℕ → List ℕ → Bool → List ℕ
+places-after rank q places true = set places rank q
+places-after rank q places false = places
+
+-- Column q is taken as c, and E is what is left in its place: if c is W q and the steps e, p are made of the columns before it, then f, p′ are made of
+-- these and of W q.
+pub record TakesNext {M : Type 0} (o : RingOps M) (rows q rank : ℕ) (e : ℕ → ℕ → M) (p : ℕ → ℕ) (places : List ℕ) (c : ℕ → M) (f : ℕ → ℕ → M) (p′ : ℕ → ℕ) (E : ℕ → M) (pivotal : Bool) : Type 0 where
+  pub judged : (W : ℕ → ℕ → M) → ((r : ℕ) → r < rows → c r ≡ W q r) → Eliminated o rows W q rank e p (entry-at places) → Judged o rows rank (λ t. W (entry-at places t)) (W q) E pivotal
+  pub eliminated : (W : ℕ → ℕ → M) → ((r : ℕ) → r < rows → c r ≡ W q r) → Eliminated o rows W q rank e p (entry-at places) → Eliminated o rows W (suc q) (rank-after rank pivotal) f p′ (entry-at (places-after rank q places pivotal))

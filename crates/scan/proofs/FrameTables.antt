@@ -6,7 +6,7 @@ use mathlib.Core.Path.{_≡_, refl, sym, ap, ap₂, subst, _∙_}
 use mathlib.Core.Logic.{inl, inr}
 use Prim.Native.Nat.{ℕ, suc, _+_, _*_, _/_, _%_, _<_, _≤_}
 use native.Mathlib.Decide.{decLt}
-use native.Mathlib.Nat.{not-suc-le-zero, le-refl, mod-lt, eq-or-lt-of-le, le-of-suc-le-suc, mul-le-mul-left, div-add-mod}
+use native.Mathlib.Nat.{not-suc-le-zero, mod-lt, eq-or-lt-of-le, le-of-suc-le-suc, mul-le-mul-left, div-add-mod}
 use native.Mathlib.Omega.{arith}
 use Rattle.algebra.specs.Rings.{RingOps, RingLaws}
 use Rattle.algebra.specs.Scanning.{Scanned, AtPivots, ReadOff}
@@ -133,9 +133,9 @@ module _ {F M : Type 0} (o : RingOps M) (L : RingLaws o) (member : F → M) (n d
           new-check = new-column o member n d rank P positive small low within frame after (suc b) (λ k. k ≡ cell n (suc b) q) (a .others) (λ t. o .negative (D b t)) (λ z. z ≡ C b)
               (λ t l. a .here t l ∙ new t l)
               (λ i k l c e.
-                let y = cell-parts n (suc b) i k (suc b) q positive small (omega arith) c (within-all n d q low inside) e in
-                let z = power-lt n (suc d) q inside in
-                (omega arith, ap₂ (λ u v. n * u + v) (y .2) (y .1) ∙ div-add-mod q n ∙ sym here))
+              let y = cell-parts n (suc b) i k (suc b) q positive small (omega arith) c (within-all n d q low inside) e in
+              let z = power-lt n (suc d) q inside in
+              (omega arith, ap₂ (λ u v. n * u + v) (y .2) (y .1) ∙ div-add-mod q n ∙ sym here))
               (λ i k l c. w .rest (suc b) i k room (omega arith) c (λ u v z. omega arith))
 
       -- column 0

@@ -1,6 +1,6 @@
 -- The divided row as the last part of the work table.
 use mathlib.Core.List.{List, [], _∷_, _++_}
-use mathlib.Core.Path.{_≡_, refl, sym, ap, _∙_, fun-ext}
+use mathlib.Core.Path.{_≡_, sym, ap, _∙_, fun-ext}
 use Prim.Native.Nat.{ℕ, _+_, _*_, _<_, _≤_}
 use native.Mathlib.Nat.{zero-add, suc-add}
 use native.Mathlib.Omega.{arith}
@@ -20,10 +20,10 @@ module _ {F M : Type 0} (o : RingOps M) (member : F → M) where
   row-part work front row split long = fun-ext (λ i.
       poly-at-is o member work (4385 + 17 * i) 17 (poly-at o member row (17 * i) 17) (poly-at-below o member row (17 * i) 17)
       (λ k l.
-        ap (λ xs. at o member xs (4385 + 17 * i + k)) split
-        ∙ ap (at o member (front ++ row)) (let e : 4385 + 17 * i + k ≡ length front + (17 * i + k) = omega arith in e)
-        ∙ at-append front row (17 * i + k)
-        ∙ sym (poly-at-in o member row (17 * i) 17 k l)))
+      ap (λ xs. at o member xs (4385 + 17 * i + k)) split
+      ∙ ap (at o member (front ++ row)) (let e : 4385 + 17 * i + k ≡ length front + (17 * i + k) = omega arith in e)
+      ∙ at-append front row (17 * i + k)
+      ∙ sym (poly-at-in o member row (17 * i) 17 k l)))
 
   -- a cleared part holds zero
   pub cleared-part : (xs : List F) (width : ℕ) → poly-at o member xs 0 width ≡ series o .zero → (k : ℕ) → k < width → at o member xs k ≡ o .zero

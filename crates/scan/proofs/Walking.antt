@@ -1,21 +1,20 @@
 -- From one place of the walk to the next: walked-start, walked-skip, walked-pivot and walked-basic; at its end, columns-written.
 use mathlib.Core.Bool.{Bool, true, false}
 use mathlib.Core.List.{List}
-use mathlib.Core.Path.{_≡_, refl, sym, ap, subst, _∙_}
+use mathlib.Core.Path.{_≡_, sym, ap, _∙_}
 use mathlib.Core.Logic.{inl, inr}
 use Prim.Native.Nat.{ℕ, suc, _+_, _-_, _*_, _%_, _<_, _≤_}
 use native.Mathlib.Nat.{not-suc-le-zero, le-refl, mod-lt, eq-or-lt-of-le, le-of-suc-le-suc, mul-le-mul-left}
 use native.Mathlib.Omega.{arith}
-use lib.ListN.{length, getD, set}
+use lib.ListN.{length, set}
 use lib.Seq.{getD-set-same, getD-set-other}
 use Rattle.algebra.specs.Rings.{RingOps, RingLaws, IsField}
 use Rattle.algebra.specs.Series.{total, series}
-use Rattle.algebra.specs.Independence.{All, Spanned}
 use Rattle.algebra.specs.Divisors.{Combination, VectorDegree}
 use Rattle.algebra.specs.Places.{place-list}
 use Rattle.algebra.specs.Frames.{FrameColumns}
 use Rattle.tables.specs.Places.{at}
-use Rattle.elimination.specs.Steps.{write, front, column-at, entry-at, reduced, Takes, IsSum}
+use Rattle.elimination.specs.Steps.{write, column-at, entry-at, reduced, Takes, IsSum}
 use Rattle.elimination.proofs.StepMaps.{write-same, write-other}
 use Rattle.elimination.proofs.Tables.{front-ext}
 use Rattle.scan.specs.Columns.{column-in, AtPlaces, CheckAt, Rising}
@@ -69,14 +68,17 @@ module _ {F M : Type 0} (o : RingOps M) (field : IsField o) (member : F → M) (
     module _ (next : List F) (nexts : List ℕ) (c R : ℕ → M) (list : (k : ℕ) → k < rows → c k ≡ place-list o n r q k) where
       pub walked-pivot : length places ≡ 33 → Takes o rows rank (column-at o member rows steps) (entry-at pivots) c (column-at o member rows next) (entry-at nexts) R true
           → (rank < 33) × Walked o member n d rows r (suc q) (suc rank) b next nexts (set places rank q) found frame
-      walked-pivot long takes = (omega (arith, room), record {
-        B = w .B;
-        E = w .E;
-        scanned = Scans.pivot o field d r n positive v q rank P b (w .B) (w .E) (mark-at found) (w .scanned) Q same here new;
-        are = takes .valid;
-        reduces = λ t l. ap (reduced o (column-at o member rows next) (entry-at nexts) (suc rank)) (front-ext o rows (place-list o n r (Q t)) (write rank c V t) (same-list t l)) ∙ takes .reduces V (w .reduces) t l;
-        written = written-pivot o L member n d r q rank P b (w .B) (w .E) (mark-at found) frame (w .scanned) (w .written) Q same here room;
-      })
+      walked-pivot long takes = (
+        omega (arith, room),
+        record {
+          B = w .B;
+          E = w .E;
+          scanned = Scans.pivot o field d r n positive v q rank P b (w .B) (w .E) (mark-at found) (w .scanned) Q same here new;
+          are = takes .valid;
+          reduces = λ t l. ap (reduced o (column-at o member rows next) (entry-at nexts) (suc rank)) (front-ext o rows (place-list o n r (Q t)) (write rank c V t) (same-list t l)) ∙ takes .reduces V (w .reduces) t l;
+          written = written-pivot o L member n d r q rank P b (w .B) (w .E) (mark-at found) frame (w .scanned) (w .written) Q same here room;
+        },
+      )
         where
           new : Scans.Made o field d r n rank P (place-list o n r q) → ⊥
           new x = takes .judged V (w .reduces) (record { factor = x .factor; inside = λ j l. tt; is = λ k l. list k l ∙ x .is k (omega arith) })

@@ -1,6 +1,6 @@
 // Writing the columns of a frame.
 ghost use mathlib.Core.Path.{_≡_};
-ghost use Prim.Native.Nat.{ℕ, suc, _+_, _*_, _<_, _≤_};
+ghost use Prim.Native.Nat.{ℕ, _+_, _*_, _<_, _≤_};
 ghost use lib.ListN.{length};
 ghost use Rattle.elimination.specs.Steps.{entry-at};
 ghost use Rattle.tables.specs.Places.{at, Kept};

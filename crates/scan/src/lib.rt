@@ -33,14 +33,7 @@ const COLUMNS: usize = 1088;
 const STEPS: usize = 1089;
 
 // Writes the frame columns of a row of degree d into a cleared frame, by way of two tables.
-fn scan<F: Field>(
-    n: usize,
-    d: usize,
-    row: &[F],
-    steps: &mut [F],
-    column: &mut [F],
-    frame: &mut [F],
-)
+fn scan<F: Field>(n: usize, d: usize, row: &[F], steps: &mut [F], column: &mut [F], frame: &mut [F])
     requires sized { ⌜ 0 < n ⌝ ∗ ⌜ n ≤ 8 ⌝ ∗ ⌜ d ≤ 16 ⌝ }
     requires room { ⌜ length (now row) ≡ 136 ⌝ ∗ ⌜ length (now steps) ≡ 1089 ⌝ ∗ ⌜ length (now column) ≡ suc (d + d) ⌝ ∗ ⌜ length (now frame) ≡ 1105 ⌝ }
     requires field { ⌜ Invertible ops ⌝ }

@@ -45,18 +45,15 @@ fn walk_place<F: Field>(
     ensures walked { λ r. ⌜ Walked ops member n d rows (generator-in ops member (now (row .entry))) (suc q) (r .rank) (r .basics) (now (steps .exit)) (now (pivots .exit)) (now (places .exit)) (now (found .exit)) (now (frame .exit)) ⌝ }
     ensures behind { λ _. ⌜ ((k : ℕ) → 1088 ≤ k → at ops member (now (frame .exit)) k ≡ at ops member (now (frame .entry)) k) ⌝ }
 {
-    let rank = counts.rank;
-    let basics = counts.basics;
+    let Counts { rank, basics } = counts;
     if found[q % n] {
         return counts;
     }
     write_list(n, d, q, row, column);
     if take_column(rows, rank, steps, pivots, column) {
         places[rank] = q;
-        return Counts {
-            rank: rank + 1,
-            basics,
-        };
+        let more = rank + 1;
+        return Counts { rank: more, basics };
     }
     let next = basics + 1;
     write_check(n, next, q, rank, places, column, frame);
@@ -80,17 +77,26 @@ pub fn walk<F: Field>(
     requires sized { ⌜ 0 < n ⌝ ∗ ⌜ n ≤ 8 ⌝ ∗ ⌜ d ≤ 16 ⌝ ∗ ⌜ rows ≡ suc (d + d) ⌝ }
     requires room { ⌜ length (now row) ≡ 136 ⌝ ∗ ⌜ length (now steps) ≡ 1089 ⌝ ∗ ⌜ length (now pivots) ≡ 33 ⌝ ∗ ⌜ length (now column) ≡ rows ⌝ }
     requires kept { ⌜ length (now places) ≡ 33 ⌝ ∗ ⌜ length (now found) ≡ 8 ⌝ ∗ ⌜ length (now frame) ≡ 1105 ⌝ }
-    requires field { ⌜ Invertible ops ⌝ }
-    requires degree { ⌜ VectorDegree ops n (generator-in ops member (now row)) d ⌝ }
-    requires unmarked { ⌜ ((i : ℕ) → i < 8 → mark-at (now found) i ≡ false) ⌝ }
-    requires cleared { ⌜ ((k : ℕ) → k < 1088 → at ops member (now frame) k ≡ ops .zero) ⌝ }
+    requires given { ⌜ Invertible ops ⌝ ∗ ⌜ VectorDegree ops n (generator-in ops member (now row)) d ⌝ }
+    requires cleared { ⌜ ((i : ℕ) → i < 8 → mark-at (now found) i ≡ false) ⌝ ∗ ⌜ ((k : ℕ) → k < 1088 → at ops member (now frame) k ≡ ops .zero) ⌝ }
     ensures walked { λ r. ⌜ Walked ops member n d rows (generator-in ops member (now (row .entry))) (n * suc d) (r .rank) (r .basics) (now (steps .exit)) (now (pivots .exit)) (now (places .exit)) (now (found .exit)) (now (frame .exit)) ⌝ }
     ensures behind { λ _. ⌜ ((k : ℕ) → 1088 ≤ k → at ops member (now (frame .exit)) k ≡ at ops member (now (frame .entry)) k) ⌝ }
 {
     let mut counts = Counts { rank: 0, basics: 0 };
     for q in 0..n * (d + 1) {
         counts = walk_place(
-            n, d, rows, q, counts, row, steps, pivots, column, places, found, frame,
+            n,
+            d,
+            rows,
+            q,
+            counts,
+            row,
+            steps,
+            pivots,
+            column,
+            places,
+            found,
+            frame,
         );
     }
     counts

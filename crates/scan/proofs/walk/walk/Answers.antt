@@ -1,5 +1,5 @@
 use mathlib.Core.Path.{_≡_, refl, ap, subst, _∙_}
-use Prim.Native.Nat.{ℕ, suc, _+_, _*_, _<_, _≤_}
+use Prim.Native.Nat.{ℕ, suc, _*_}
 use native.Mathlib.Numerals.{add-one}
 use native.Mathlib.Omega.{arith}
 use Rattle.frames.specs.Rows.{generator-in}
@@ -13,8 +13,8 @@ loop-q-holds g c =
     let f = g .F·Field in
     let laws = g .F·Field·met in
     let a = c .args in (
-      walked-start (f .ops) (is-field (laws .laws) (laws .numbered) (c .pre .field)) (f .member) (a .n) (a .d) (a .rows) (generator-in (f .ops) (f .member) (a .row .now)) (c .pre .sized .0) (c .pre .sized .1 .0) (c .pre .sized .1 .1 .0) (c .pre .sized .1 .1 .1) (c .pre .degree)
-          (a .steps .now) (a .pivots .now) (a .places .now) (a .found .now) (a .frame .now) (c .pre .unmarked) (c .pre .cleared),
+      walked-start (f .ops) (is-field (laws .laws) (laws .numbered) (c .pre .given .0)) (f .member) (a .n) (a .d) (a .rows) (generator-in (f .ops) (f .member) (a .row .now)) (c .pre .sized .0) (c .pre .sized .1 .0) (c .pre .sized .1 .1 .0) (c .pre .sized .1 .1 .1) (c .pre .given .1)
+          (a .steps .now) (a .pivots .now) (a .places .now) (a .found .now) (a .frame .now) (c .pre .cleared .0) (c .pre .cleared .1),
       λ k l. refl,
     )
 
@@ -25,8 +25,8 @@ walk-place-counts-requires g c κs =
       sized = (c .pre .sized .0, (c .pre .sized .1 .0, (c .pre .sized .1 .1 .0, (c .pre .sized .1 .1 .1, omega arith))));
       room = (omega arith, (omega arith, (omega arith, omega arith)));
       kept = (omega arith, (omega arith, omega arith));
-      field = c .pre .field;
-      degree = c .pre .degree;
+      field = c .pre .given .0;
+      degree = c .pre .given .1;
       walked = c .loop-q .inv .0;
     }
 

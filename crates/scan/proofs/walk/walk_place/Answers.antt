@@ -1,15 +1,12 @@
-use mathlib.Core.Path.{_≡_, refl, subst, _∙_}
-use Prim.Native.Nat.{ℕ, suc, _+_, _*_, _%_, _<_, _≤_}
+use mathlib.Core.Path.{refl}
+use Prim.Native.Nat.{suc, _<_, _≤_}
 use native.Mathlib.Numerals.{add-one}
 use native.Mathlib.Omega.{arith}
-use lib.ListN.{set}
-use Rattle.algebra.specs.Rings.{IsField}
 use Rattle.elimination.specs.Steps.{entry-at}
 use Rattle.frames.specs.Rows.{generator-in}
 use Rattle.tables.specs.Places.{at}
 use Rattle.polynomials.proofs.Divisions.{is-field}
 use Rattle.scan.specs.Columns.{CheckAt}
-use Rattle.scan.specs.Walked.{Walked}
 use Rattle.scan.proofs.FrameTables.{within-all}
 use Rattle.scan.proofs.Walking as Walking
 use Rattle.scan.proofs.walk.walk_place.Needs as need
