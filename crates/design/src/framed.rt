@@ -57,4 +57,11 @@ impl Framed {
     {
         self.divisor
     }
+
+    // The degrees of the columns: that of column j in bits 8 j to 8 j + 7.
+    pub fn columns(&self) -> u64
+        ensures { λ r. ⌜ r ≡ now (self .entry) .columns ⌝ }
+    {
+        self.columns
+    }
 }

@@ -9,6 +9,7 @@ use cards::fault::CardRefusal;
 use cards::read::read_card;
 use cards::write::write_card;
 use design::draft::Draft;
+use design::framed::Framed;
 use fields::fault::RefusalText;
 use fields::fault::RefusalTextDisplay;
 use fields::field::Field;
@@ -19,6 +20,12 @@ use history::perform::perform;
 use history::request::AnswerDisplay;
 use history::request::Request;
 use history::request::RequestDisplay;
+use link::calls::check;
+use link::calls::encode;
+use link::calls::invert;
+use link::fault::LinkFault;
+use link::fault::LinkFaultDisplay;
+use link::fault::LinkRefusal;
 use nibbles::Nibble;
 use nibbles::NibbleField;
 use nibbles::quadratic::NibbleQuadratic;
@@ -27,6 +34,8 @@ use polynomial::PolynomialText;
 use polynomial::PolynomialTextDisplay;
 use polynomial::RowText;
 use polynomial::RowTextDisplay;
+use polynomial::SymbolsText;
+use polynomial::SymbolsTextDisplay;
 use std::error::AnyError;
 use tones::Tone;
 use tones::ToneField;
@@ -112,8 +121,83 @@ fn walk(rt: &LibcRuntime) -> Result<(), AnyError> {
     println!(rt, "Two slips of the hand are refused, and change nothing:")?;
     let draft = enter(rt, draft, &mut table, &SLIPS)?;
     keep(rt, &draft, &table)?;
+    carry(rt, draft, &table)?;
     factor(rt)?;
     show_products(rt)
+}
+
+// Prints a column of a frame, component by component.
+fn show_column(rt: &LibcRuntime, framed: &Framed, frame: &[Tone], j: usize) -> Result<(), AnyError> {
+    for i in 0..framed.generators() {
+        let comma = if i == 0 { "(" } else { ", " };
+        if let Ok(coefficients) = framed.column(frame, i, j) {
+            let polynomial = PolynomialText { coefficients };
+            print!(rt, "{comma}{polynomial}")?;
+        }
+    }
+    print!(rt, ")")?;
+    Ok(())
+}
+
+// Prints the columns of a frame and their degrees.
+fn show_frame(rt: &LibcRuntime, framed: &Framed, frame: &[Tone]) -> Result<(), AnyError> {
+    for (j, degree) in framed.columns().to_le_bytes().iter().take(framed.generators()).enumerate() {
+        print!(rt, "  column {j}, of degree {degree}: ")?;
+        show_column(rt, framed, frame, j)?;
+        println!(rt, "")?;
+    }
+    let [first, ..] = framed.columns().to_le_bytes();
+    let spoiled = u16::from(first) + 1;
+    println!(rt, "No Bezout vector is shorter than column 0: one hit on the air spoils at most {spoiled} symbols.")?;
+    Ok(())
+}
+
+// Checks a block and inverts it.
+fn receive(rt: &LibcRuntime, framed: &Framed, frame: &[Tone], block: &[Tone]) -> Result<(), AnyError> {
+    let mut message = [Tone::T0; 2];
+    let verdict = match check(framed, frame, block) {
+        Ok(true) => "clean",
+        Ok(false) => "unclean",
+        Err(_) => "refused",
+    };
+    if invert(framed, frame, block, &mut message).is_err() {
+        return Err("invert was refused".into());
+    }
+    let sent = SymbolsText { symbols: block };
+    let home = SymbolsText { symbols: &message };
+    println!(rt, "  block {sent}: {verdict}, inverted to {home}")?;
+    Ok(())
+}
+
+// Sends a message over the link, and once more with a hit on the air.
+fn send(rt: &LibcRuntime, framed: &Framed, table: &[Tone], frame: &[Tone]) -> Result<(), AnyError> {
+    let mut block = [Tone::T0; 8];
+    if encode(framed, table, &[Tone::T3, Tone::T1], &mut block).is_err() {
+        return Err("encode was refused".into());
+    }
+    println!(rt, "The message 3 1 is sent, and once more with its fourth symbol hit:")?;
+    receive(rt, framed, frame, &block)?;
+    block[3] = Tone::T9;
+    receive(rt, framed, frame, &block)
+}
+
+// Frames a design, shows its frame, and sends a message where its divisor allows it.
+fn carry(rt: &LibcRuntime, draft: Draft, table: &[Tone]) -> Result<(), AnyError> {
+    let mut frame = [Tone::T0; 1105];
+    let mut work = [Tone::T0; 4521];
+    let Ok(framed) = draft.frame(table, &mut frame, &mut work) else {
+        return Err("frame was refused".into());
+    };
+    println!(rt, "The design is framed:")?;
+    show_frame(rt, &framed, &frame)?;
+    match encode(&framed, table, &[], &mut []) {
+        Err(LinkFault::Divisor) => {
+            let text = RefusalText { fault: &LinkFault::Divisor };
+            println!(rt, "The link turns it away: {text}")?;
+            Ok(())
+        }
+        _ => send(rt, &framed, table, &frame),
+    }
 }
 
 // Prints the divisor that the generators of a design share, and the row divided by it.
@@ -140,8 +224,9 @@ fn factor(rt: &LibcRuntime) -> Result<(), AnyError> {
         return Err("begin was refused".into());
     };
     println!(rt, "Another design is entered, whose generators have a common factor:")?;
-    let _ = enter(rt, draft, &mut table, &SHARED)?;
-    show_divisor(rt, &table, &mut work)
+    let draft = enter(rt, draft, &mut table, &SHARED)?;
+    show_divisor(rt, &table, &mut work)?;
+    carry(rt, draft, &table)
 }
 
 // Reads a card and prints what came of it.

@@ -65,3 +65,20 @@ pub impl<F: Field> fmt::Display for RowText<'_, F> as RowTextDisplay {
         Ok(())
     }
 }
+
+// Symbols by their codes, with a blank between.
+#[derive(Drop)]
+pub struct SymbolsText<'a, F: Field> {
+    pub symbols: &'a [F],
+}
+
+pub impl<F: Field> fmt::Display for SymbolsText<'_, F> as SymbolsTextDisplay {
+    fn fmt<W: fmt::Write>(&self, f: &mut fmt::Formatter<W>) -> fmt::Result {
+        for (i, x) in self.symbols.iter().enumerate() {
+            let blank = if i == 0 { "" } else { " " };
+            let code = x.code();
+            write!(f, "{blank}{code}")?;
+        }
+        Ok(())
+    }
+}
