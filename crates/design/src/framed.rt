@@ -1,7 +1,6 @@
 // A framed design: what is known of a design once its frame stands in the caller's table.
 ghost use mathlib.Core.Path.{_≡_};
 ghost use Prim.Native.Nat.{_+_, _*_, _/_, _%_, _^_, _≤_};
-
 use framing::Numbers;
 
 mod calls;

@@ -10,6 +10,7 @@ mod tests {
     use fields::field::Field;
     use nibbles::NibbleField;
     use nibbles::quadratic::NibbleQuadratic;
+    use pairs::PairClone;
     use pairs::PairField;
     use std::alloc::Global;
     use std::test::*;
@@ -46,13 +47,20 @@ mod tests {
     }
 
     // Frames the design of the terms, and compares the frame table with the nonzero codes given by their places.
-    fn frames_to<F: Field>(heap: Global, n: usize, terms: &[Term], expected: &[(usize, u32)], degrees: u64) -> Result<(), Fail> {
+    fn frames_to<F: Field + Clone>(
+        heap: Global,
+        n: usize,
+        terms: &[Term],
+        expected: &[(usize, u32)],
+        degrees: u64,
+    ) -> Result<(), Fail> {
         let mut table = vec![in heap; F::zero(); 136]?;
         let mut frame = vec![in heap; F::one(); 1105]?;
         let mut work = vec![in heap; F::one(); 4521]?;
         let draft = Draft::begin(n, table.as_mut_slice())?;
         enter(&draft, table.as_mut_slice(), terms)?;
-        let Ok(framed) = draft.frame(table.as_slice(), frame.as_mut_slice(), work.as_mut_slice()) else {
+        let Ok(framed) = draft.frame(table.as_slice(), frame.as_mut_slice(), work.as_mut_slice())
+        else {
             return Err(Fail::new("refused"));
         };
         let mut sum = 0u64;
@@ -69,26 +77,82 @@ mod tests {
     fn worked_designs_over_tones(rt: LibcRuntime) -> Result<(), Fail> {
         let heap = rt.alloc();
         // (1, s): (1, 0), (s, 30)
-        frames_to::<Tone>(heap, 2, &[Term(0, 0, 1), Term(1, 1, 1)], &[(0, 1), (137, 1), (153, 30), (1088, 1)], 256)?;
+        frames_to::<Tone>(
+            heap,
+            2,
+            &[Term(0, 0, 1), Term(1, 1, 1)],
+            &[(0, 1), (137, 1), (153, 30), (1088, 1)],
+            256,
+        )?;
         // (s, s + 1): (30, 1), (30 + 30s, s)
-        frames_to::<Tone>(heap, 2, &[Term(0, 1, 1), Term(1, 0, 1), Term(1, 1, 1)], &[(0, 30), (17, 1), (136, 30), (137, 30), (154, 1), (1088, 1)], 256)?;
+        frames_to::<Tone>(
+            heap,
+            2,
+            &[Term(0, 1, 1), Term(1, 0, 1), Term(1, 1, 1)],
+            &[(0, 30), (17, 1), (136, 30), (137, 30), (154, 1), (1088, 1)],
+            256,
+        )?;
         // (s^2, s^2 + s): the same columns, divisor s
-        frames_to::<Tone>(heap, 2, &[Term(0, 2, 1), Term(1, 1, 1), Term(1, 2, 1)], &[(0, 30), (17, 1), (136, 30), (137, 30), (154, 1), (1089, 1)], 256)?;
+        frames_to::<Tone>(
+            heap,
+            2,
+            &[Term(0, 2, 1), Term(1, 1, 1), Term(1, 2, 1)],
+            &[(0, 30), (17, 1), (136, 30), (137, 30), (154, 1), (1089, 1)],
+            256,
+        )?;
         // (s^2, s + 1): (1, 1 + 30s), (30 + 30s, s^2)
-        frames_to::<Tone>(heap, 2, &[Term(0, 2, 1), Term(1, 0, 1), Term(1, 1, 1)], &[(0, 1), (17, 1), (18, 30), (136, 30), (137, 30), (155, 1), (1088, 1)], 513)?;
+        frames_to::<Tone>(
+            heap,
+            2,
+            &[Term(0, 2, 1), Term(1, 0, 1), Term(1, 1, 1)],
+            &[
+                (0, 1),
+                (17, 1),
+                (18, 30),
+                (136, 30),
+                (137, 30),
+                (155, 1),
+                (1088, 1),
+            ],
+            513,
+        )?;
         // (0, 5): (0, 25), (1, 0)
-        frames_to::<Tone>(heap, 2, &[Term(1, 0, 5)], &[(17, 25), (136, 1), (1088, 1)], 0)
+        frames_to::<Tone>(
+            heap,
+            2,
+            &[Term(1, 0, 5)],
+            &[(17, 25), (136, 1), (1088, 1)],
+            0,
+        )
     }
 
     #[test]
     fn worked_designs_of_three_and_of_bytes(rt: LibcRuntime) -> Result<(), Fail> {
         let heap = rt.alloc();
         // (1, s, s^2): (1, 0, 0), (s, 30, 0), (0, s, 30)
-        frames_to::<Tone>(heap, 3, &[Term(0, 0, 1), Term(1, 1, 1), Term(2, 2, 1)], &[(0, 1), (137, 1), (153, 30), (290, 1), (306, 30), (1088, 1)], 65792)?;
+        frames_to::<Tone>(
+            heap,
+            3,
+            &[Term(0, 0, 1), Term(1, 1, 1), Term(2, 2, 1)],
+            &[(0, 1), (137, 1), (153, 30), (290, 1), (306, 30), (1088, 1)],
+            65792,
+        )?;
         // (1, 0, s^3): (1, 0, 0), (0, 1, 0), (s^3, 0, 30)
-        frames_to::<Tone>(heap, 3, &[Term(0, 0, 1), Term(2, 3, 1)], &[(0, 1), (153, 1), (275, 1), (306, 30), (1088, 1)], 196608)?;
+        frames_to::<Tone>(
+            heap,
+            3,
+            &[Term(0, 0, 1), Term(2, 3, 1)],
+            &[(0, 1), (153, 1), (275, 1), (306, 30), (1088, 1)],
+            196608,
+        )?;
         // bytes (16, s): (255, 0), (s, 16)
-        frames_to::<Byte>(heap, 2, &[Term(0, 0, 16), Term(1, 1, 1)], &[(0, 255), (137, 1), (153, 16), (1088, 1)], 256)
+        frames_to::<Byte>(
+            heap,
+            2,
+            &[Term(0, 0, 16), Term(1, 1, 1)],
+            &[(0, 255), (137, 1), (153, 16), (1088, 1)],
+            256,
+        )
     }
 
     // The number of a refused frame of n generators that are all zero, with tables of these lengths.

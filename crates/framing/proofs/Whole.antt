@@ -46,7 +46,7 @@ module _ {R : Type 0} (o : RingOps R) (field : IsField o) where
 
   -- the frame columns of the divided row, with the divisor, are the frame of the generators
   pub frame-of-columns : (n : ℕ) → 2 ≤ n → (a : ℕ → ℕ → R) (g : ℕ → R) (r : ℕ → ℕ → R) (d : ℕ) (c : ℕ → ℕ → ℕ → R) → MonicGcd o n a g → DividedRow o n a g r → VectorDegree o n r d
-    → (p : ℕ → ℕ) × FrameColumns o (n - 1) d r p c → IsFrame o (n - 1) a g d c
+      → (p : ℕ → ℕ) × FrameColumns o (n - 1) d r p c → IsFrame o (n - 1) a g d c
   frame-of-columns n two a g r d c gcd divided degree columns =
       let e : n ≡ suc (n - 1) = omega arith in
       record {
@@ -55,5 +55,5 @@ module _ {R : Type 0} (o : RingOps R) (field : IsField o) where
         divided = subst (λ (k : ℕ). DividedRow o k a g r) e divided;
         degree = subst (λ (k : ℕ). VectorDegree o k r d) e degree;
         place = columns .0;
-        columns = columns .1
+        columns = columns .1;
       }

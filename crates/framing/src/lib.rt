@@ -24,7 +24,12 @@ pub struct Numbers {
 }
 
 // Writes the frame of the first n generators, absent where they are all zero, and leaves the work table at zero.
-pub fn frame_row<F: Field>(n: usize, generators: &[F], frame: &mut [F], work: &mut [F]) -> Option<Numbers>
+pub fn frame_row<F: Field>(
+    n: usize,
+    generators: &[F],
+    frame: &mut [F],
+    work: &mut [F],
+) -> Option<Numbers>
     requires sized { ⌜ 2 ≤ n ⌝ ∗ ⌜ n ≤ 8 ⌝ }
     requires room { ⌜ length (now generators) ≡ 136 ⌝ ∗ ⌜ length (now frame) ≡ 1105 ⌝ ∗ ⌜ length (now work) ≡ 4521 ⌝ }
     ensures answer { λ r. ⌜ Cases r (AllZero ops n (generator-in ops member (now (generators .entry))) × (now (frame .exit) ≡ now (frame .entry))) (λ x. HoldsFrame ops member n (now (generators .entry)) (now (frame .exit)) (x .degree) (x .divisor) (x .columns)) ⌝ }

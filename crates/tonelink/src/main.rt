@@ -65,9 +65,21 @@ const DESIGN: [Request; 3] = [
 
 // The design (s^2, s + s^2).
 const SHARED: [Request; 3] = [
-    Request::Put { i: 0, power: 2, code: 1 },
-    Request::Put { i: 1, power: 1, code: 1 },
-    Request::Put { i: 1, power: 2, code: 1 },
+    Request::Put {
+        i: 0,
+        power: 2,
+        code: 1,
+    },
+    Request::Put {
+        i: 1,
+        power: 1,
+        code: 1,
+    },
+    Request::Put {
+        i: 1,
+        power: 2,
+        code: 1,
+    },
 ];
 
 // Two slips of the hand.
@@ -127,7 +139,12 @@ fn walk(rt: &LibcRuntime) -> Result<(), AnyError> {
 }
 
 // Prints a column of a frame, component by component.
-fn show_column(rt: &LibcRuntime, framed: &Framed, frame: &[Tone], j: usize) -> Result<(), AnyError> {
+fn show_column(
+    rt: &LibcRuntime,
+    framed: &Framed,
+    frame: &[Tone],
+    j: usize,
+) -> Result<(), AnyError> {
     for i in 0..framed.generators() {
         let comma = if i == 0 { "(" } else { ", " };
         if let Ok(coefficients) = framed.column(frame, i, j) {
@@ -141,19 +158,32 @@ fn show_column(rt: &LibcRuntime, framed: &Framed, frame: &[Tone], j: usize) -> R
 
 // Prints the columns of a frame and their degrees.
 fn show_frame(rt: &LibcRuntime, framed: &Framed, frame: &[Tone]) -> Result<(), AnyError> {
-    for (j, degree) in framed.columns().to_le_bytes().iter().take(framed.generators()).enumerate() {
+    for (j, degree) in framed
+        .columns()
+        .to_le_bytes()
+        .iter()
+        .take(framed.generators())
+        .enumerate() {
         print!(rt, "  column {j}, of degree {degree}: ")?;
         show_column(rt, framed, frame, j)?;
         println!(rt, "")?;
     }
     let [first, ..] = framed.columns().to_le_bytes();
     let spoiled = u16::from(first) + 1;
-    println!(rt, "No Bezout vector is shorter than column 0: one hit on the air spoils at most {spoiled} symbols.")?;
+    println!(
+        rt,
+        "No Bezout vector is shorter than column 0: one hit on the air spoils at most {spoiled} symbols."
+    )?;
     Ok(())
 }
 
 // Checks a block and inverts it.
-fn receive(rt: &LibcRuntime, framed: &Framed, frame: &[Tone], block: &[Tone]) -> Result<(), AnyError> {
+fn receive(
+    rt: &LibcRuntime,
+    framed: &Framed,
+    frame: &[Tone],
+    block: &[Tone],
+) -> Result<(), AnyError> {
     let mut message = [Tone::T0; 2];
     let verdict = match check(framed, frame, block) {
         Ok(true) => "clean",
@@ -175,7 +205,10 @@ fn send(rt: &LibcRuntime, framed: &Framed, table: &[Tone], frame: &[Tone]) -> Re
     if encode(framed, table, &[Tone::T3, Tone::T1], &mut block).is_err() {
         return Err("encode was refused".into());
     }
-    println!(rt, "The message 3 1 is sent, and once more with its fourth symbol hit:")?;
+    println!(
+        rt,
+        "The message 3 1 is sent, and once more with its fourth symbol hit:"
+    )?;
     receive(rt, framed, frame, &block)?;
     block[3] = Tone::T9;
     receive(rt, framed, frame, &block)
@@ -192,7 +225,9 @@ fn carry(rt: &LibcRuntime, draft: Draft, table: &[Tone]) -> Result<(), AnyError>
     show_frame(rt, &framed, &frame)?;
     match encode(&framed, table, &[], &mut []) {
         Err(LinkFault::Divisor) => {
-            let text = RefusalText { fault: &LinkFault::Divisor };
+            let text = RefusalText {
+                fault: &LinkFault::Divisor,
+            };
             println!(rt, "The link turns it away: {text}")?;
             Ok(())
         }
@@ -207,9 +242,17 @@ fn show_divisor(rt: &LibcRuntime, table: &[Tone], work: &mut [Tone]) -> Result<(
     }
     match divide_by_gcd(2, table, work) {
         Some(_) => {
-            let divisor = PolynomialText { coefficients: &work[DIVISOR..ROW] };
-            let row = RowText { n: 2, table: &work[ROW..4521] };
-            println!(rt, "Its divisor is {divisor}, and divided by it the row is ({row}).")?;
+            let divisor = PolynomialText {
+                coefficients: &work[DIVISOR..ROW],
+            };
+            let row = RowText {
+                n: 2,
+                table: &work[ROW..4521],
+            };
+            println!(
+                rt,
+                "Its divisor is {divisor}, and divided by it the row is ({row})."
+            )?;
         }
         None => println!(rt, "Every generator is zero.")?,
     }
@@ -223,7 +266,10 @@ fn factor(rt: &LibcRuntime) -> Result<(), AnyError> {
     let Ok(draft) = Draft::begin(2, &mut table) else {
         return Err("begin was refused".into());
     };
-    println!(rt, "Another design is entered, whose generators have a common factor:")?;
+    println!(
+        rt,
+        "Another design is entered, whose generators have a common factor:"
+    )?;
     let draft = enter(rt, draft, &mut table, &SHARED)?;
     show_divisor(rt, &table, &mut work)?;
     carry(rt, draft, &table)

@@ -11,7 +11,12 @@ use framing::frame_row;
 
 impl Draft {
     // Writes the degree-optimal frame of the generators and gives the framed design; refused, it hands the draft back.
-    pub fn frame<F: Field>(self, generators: &[F], frame: &mut [F], work: &mut [F]) -> Result<Framed, HandedBack<Draft>>
+    pub fn frame<F: Field>(
+        self,
+        generators: &[F],
+        frame: &mut [F],
+        work: &mut [F],
+    ) -> Result<Framed, HandedBack<Draft>>
         ensures granted { λ r. ⌜ Cases r (λ x. Frames ops member (self .n) (now (generators .entry)) (now (frame .entry)) (now (work .entry)) (now (frame .exit)) (now (work .exit)) (x .n) (x .degree) (x .divisor) (x .columns)) (λ _. Unit {0}) ⌝ }
         ensures refused { λ r. ⌜ Cases r (λ _. Unit {0}) (λ e. FrameRefused ops member (self .n) (now (generators .entry)) (now (frame .entry)) (now (work .entry)) (now (work .exit)) (e .fault) × (e .design ≡ self) × (now (frame .exit) ≡ now (frame .entry))) ⌝ }
     {

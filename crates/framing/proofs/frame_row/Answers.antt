@@ -22,7 +22,7 @@ write-frame-requires g c κs =
       sized = (omega arith, (omega arith, omega arith));
       room = (search needs, search needs);
       degree = all .highest;
-      coprime = DividedRows.one-is-combination (f .ops) field (c .args .n) (generator-in (f .ops) (f .member) (c .args .generators .now)) (gcd-in (f .ops) (f .member) (c .divide-by-gcd .last .work)) (quotient-in (f .ops) (f .member) (c .divide-by-gcd .last .work)) (all .gcd) (all .divided)
+      coprime = DividedRows.one-is-combination (f .ops) field (c .args .n) (generator-in (f .ops) (f .member) (c .args .generators .now)) (gcd-in (f .ops) (f .member) (c .divide-by-gcd .last .work)) (quotient-in (f .ops) (f .member) (c .divide-by-gcd .last .work)) (all .gcd) (all .divided);
     }
 
 pub pack-degrees-requires : need.pack-degrees-requires
@@ -36,7 +36,7 @@ pack-degrees-requires g c κs =
     let frame = frame-of-columns (f .ops) field n two (generator-in (f .ops) (f .member) (c .args .generators .now)) (gcd-in (f .ops) (f .member) (c .divide-by-gcd .last .work)) (quotient-in (f .ops) (f .member) (c .divide-by-gcd .last .work)) (c .in-Some .degrees .row) (column-in (f .ops) (f .member) (c .write-frame .last .frame)) (all .gcd) (all .divided) (all .highest) (c .write-frame .ensures .columns) in
     record {
       room = (omega arith, (omega arith, search needs));
-      nonzero = λ k h none. columns-nonzero (f .ops) field (n - 1) _ _ _ _ frame k (omega arith) (subst (λ (i : ℕ). AllZero (f .ops) i (column-in (f .ops) (f .member) (c .write-frame .last .frame) k)) e none)
+      nonzero = λ k h none. columns-nonzero (f .ops) field (n - 1) _ _ _ _ frame k (omega arith) (subst (λ (i : ℕ). AllZero (f .ops) i (column-in (f .ops) (f .member) (c .write-frame .last .frame) k)) e none);
     }
 
 pub returns-in-Some : need.returns-in-Some
@@ -52,12 +52,12 @@ returns-in-Some g c =
     let frame = frame-of-columns (f .ops) field n two row (gcd-in (f .ops) (f .member) (c .divide-by-gcd .last .work)) (quotient-in (f .ops) (f .member) (c .divide-by-gcd .last .work)) (c .in-Some .degrees .row) columns (all .gcd) (all .divided) (all .highest) (c .write-frame .ensures .columns) in
     record {
       answer =
-      record {
-        is-frame = subst (λ (d : ℕ → R). IsFrame (f .ops) (n - 1) row d (c .in-Some .degrees .row) columns) (sym (c .write-frame .ensures .divisor)) frame;
-        divisor-degree = subst (λ (d : ℕ → R). Degree (f .ops) d (c .in-Some .degrees .divisor)) (sym (c .write-frame .ensures .divisor)) (all .degree);
-        column-degrees = c .pack-degrees .ensures .degrees;
-        rest = c .write-frame .ensures .rest;
-        within = degrees-within (f .ops) field (f .member) n (c .in-Some .degrees .divisor) (c .in-Some .degrees .row) (c .args .generators .now) (c .divide-by-gcd .last .work) all
-      };
-      cleared = c .clear .ensures
+          record {
+            is-frame = subst (λ (d : ℕ → R). IsFrame (f .ops) (n - 1) row d (c .in-Some .degrees .row) columns) (sym (c .write-frame .ensures .divisor)) frame;
+            divisor-degree = subst (λ (d : ℕ → R). Degree (f .ops) d (c .in-Some .degrees .divisor)) (sym (c .write-frame .ensures .divisor)) (all .degree);
+            column-degrees = c .pack-degrees .ensures .degrees;
+            rest = c .write-frame .ensures .rest;
+            within = degrees-within (f .ops) field (f .member) n (c .in-Some .degrees .divisor) (c .in-Some .degrees .row) (c .args .generators .now) (c .divide-by-gcd .last .work) all;
+          };
+      cleared = c .clear .ensures;
     }

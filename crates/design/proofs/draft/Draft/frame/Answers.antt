@@ -20,12 +20,12 @@ returns-in-Some g c =
     let holds = subst₂ (λ (e p : ℕ). HoldsFrame (f .ops) (f .member) n generators frame (c .of .result .degree) e p) (sym (numbers .1 .1 .0)) (sym (numbers .1 .1 .1)) degree in
     record {
       granted =
-      record {
-        asked = search needs;
-        same-count = numbers .0 ∙ c .count-in-Some .ensures;
-        holds = holds;
-        optimal = frame-optimal (f .ops) field (n - 1) (generator-in (f .ops) (f .member) generators) (divisor-in (f .ops) (f .member) frame) (c .of .result .degree) (column-in (f .ops) (f .member) frame) (holds .is-frame);
-        cleared = c .in-Some .ensures tt .cleared
-      };
-      refused = tt
+          record {
+            asked = search needs;
+            same-count = numbers .0 ∙ c .count-in-Some .ensures;
+            holds = holds;
+            optimal = frame-optimal (f .ops) field (n - 1) (generator-in (f .ops) (f .member) generators) (divisor-in (f .ops) (f .member) frame) (c .of .result .degree) (column-in (f .ops) (f .member) frame) (holds .is-frame);
+            cleared = c .in-Some .ensures tt .cleared;
+          };
+      refused = tt;
     }
