@@ -4,4 +4,3 @@ pub mod FrameTables
 pub mod Scans
 pub mod Walking
 pub mod RowParts
-pub mod DividedFrames

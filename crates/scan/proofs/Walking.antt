@@ -67,18 +67,15 @@ module _ {F M : Type 0} (o : RingOps M) (field : IsField o) (member : F → M) (
     -- after the list at q was taken
     module _ (next : List F) (nexts : List ℕ) (c R : ℕ → M) (list : (k : ℕ) → k < rows → c k ≡ place-list o n r q k) where
       pub walked-pivot : length places ≡ 33 → Takes o rows rank (column-at o member rows steps) (entry-at pivots) c (column-at o member rows next) (entry-at nexts) R true
-          → (rank < 33) × Walked o member n d rows r (suc q) (suc rank) b next nexts (set places rank q) found frame
-      walked-pivot long takes = (
-        omega (arith, room),
-        record {
-          B = w .B;
-          E = w .E;
-          scanned = Scans.pivot o field d r n positive v q rank P b (w .B) (w .E) (mark-at found) (w .scanned) Q same here new;
-          are = takes .valid;
-          reduces = λ t l. ap (reduced o (column-at o member rows next) (entry-at nexts) (suc rank)) (front-ext o rows (place-list o n r (Q t)) (write rank c V t) (same-list t l)) ∙ takes .reduces V (w .reduces) t l;
-          written = written-pivot o L member n d r q rank P b (w .B) (w .E) (mark-at found) frame (w .scanned) (w .written) Q same here room;
-        },
-      )
+          → Walked o member n d rows r (suc q) (suc rank) b next nexts (set places rank q) found frame
+      walked-pivot long takes = record {
+        B = w .B;
+        E = w .E;
+        scanned = Scans.pivot o field d r n positive v q rank P b (w .B) (w .E) (mark-at found) (w .scanned) Q same here new;
+        are = takes .valid;
+        reduces = λ t l. ap (reduced o (column-at o member rows next) (entry-at nexts) (suc rank)) (front-ext o rows (place-list o n r (Q t)) (write rank c V t) (same-list t l)) ∙ takes .reduces V (w .reduces) t l;
+        written = written-pivot o L member n d r q rank P b (w .B) (w .E) (mark-at found) frame (w .scanned) (w .written) Q same here room;
+      }
         where
           new : Scans.Made o field d r n rank P (place-list o n r q) → ⊥
           new x = takes .judged V (w .reduces) (record { factor = x .factor; inside = λ j l. tt; is = λ k l. list k l ∙ x .is k (omega arith) })

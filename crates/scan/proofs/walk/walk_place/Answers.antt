@@ -34,7 +34,7 @@ returns-then-take-column g c =
     Walking.walked-pivot (f .ops) (is-field (laws .laws) (laws .numbered) (c .pre .field)) (f .member) (a .n) (a .d) (a .rows) (generator-in (f .ops) (f .member) (a .row .now)) (c .pre .sized .0) (c .pre .sized .1 .0) (c .pre .sized .1 .1 .0) (c .pre .sized .1 .1 .1 .0) (c .pre .degree)
     (a .q) (a .counts .rank) (a .counts .basics) (a .steps .now) (a .pivots .now) (a .places .now) (a .found .now) (a .frame .now) (c .pre .walked)
     (c .take-column .last .steps) (c .take-column .last .pivots) (at (f .ops) (f .member) (c .write-list .last .column)) (at (f .ops) (f .member) (c .take-column .last .column)) (λ k l. c .write-list .ensures k (omega arith)) (c .pre .kept .0) (c .if-take-column .ensures tt) in
-    record { walked = rw add-one (moved .1); behind = λ k l. refl }
+    record { walked = rw add-one moved; behind = λ k l. refl }
 
 pub add-next : need.add-next
 add-next g c =
