@@ -35,6 +35,7 @@ pub fn frame_row<F: Field>(
     ensures answer { λ r. ⌜ Cases r (AllZero ops n (generator-in ops member (now (generators .entry))) × (now (frame .exit) ≡ now (frame .entry))) (λ x. HoldsFrame ops member n (now (generators .entry)) (now (frame .exit)) (x .degree) (x .divisor) (x .columns)) ⌝ }
     ensures cleared { λ _. ⌜ Cleared ops member (now (work .exit)) ⌝ }
 {
+    // Its contract promises that each member but zero has an inverse.
     let _ = F::one().inverse();
     match divide_by_gcd(n, generators, work) {
         None => None,

@@ -26,6 +26,7 @@ impl Draft {
                 fault: DesignFault::TableLength,
             });
         }
+        // Its contract promises that each member but zero has an inverse.
         let _ = F::one().inverse();
         match frame_row(self.count(), generators, frame, work) {
             None => Err(HandedBack {
