@@ -155,6 +155,61 @@ mod tests {
         )
     }
 
+    #[test]
+    fn designs_at_the_limits(rt: LibcRuntime) -> Result<(), Fail> {
+        let heap = rt.alloc();
+        // (s^16, s^16): the divisor has degree 16, and the divided row degree 0
+        frames_to::<Tone>(
+            heap,
+            2,
+            &[Term(0, 16, 1), Term(1, 16, 1)],
+            &[(0, 1), (136, 30), (153, 1), (1104, 1)],
+            0,
+        )?;
+        // (s^16, 0, 0, 0, 0, 0, 0, 1): the last check column is (30, 0, .., 0, s^16)
+        let expected = [
+            (119, 1),
+            (153, 1),
+            (306, 1),
+            (459, 1),
+            (612, 1),
+            (765, 1),
+            (918, 1),
+            (952, 30),
+            (1087, 1),
+            (1088, 1),
+        ];
+        frames_to::<Tone>(
+            heap,
+            8,
+            &[Term(0, 16, 1), Term(7, 0, 1)],
+            &expected,
+            1152921504606846976,
+        )
+    }
+
+    #[test]
+    fn the_first_column_is_the_least(rt: LibcRuntime) -> Result<(), Fail> {
+        let heap = rt.alloc();
+        let mut table = vec![in heap; Tone::T0; 136]?;
+        let mut frame = vec![in heap; Tone::T0; 1105]?;
+        let mut work = vec![in heap; Tone::T0; 4521]?;
+        let draft = Draft::begin(3, table.as_mut_slice())?;
+        // For (s^2, s + 1, 1) Euclid's chain would give (1, 1 + 30s, 0).
+        enter(
+            &draft,
+            table.as_mut_slice(),
+            &[Term(0, 2, 1), Term(1, 0, 1), Term(1, 1, 1), Term(2, 0, 1)],
+        )?;
+        check(
+            draft
+                .frame(table.as_slice(), frame.as_mut_slice(), work.as_mut_slice())
+                .is_ok(),
+        )?;
+        check_eq(code_at(frame.as_slice(), 34), 1)?;
+        check_eq(sum_of_codes(frame.as_slice().get(0..136).unwrap_or(&[])), 1)
+    }
+
     // The number of a refused frame of n generators that are all zero, with tables of these lengths.
     fn refused(heap: Global, generators: usize, frame: usize, work: usize) -> Result<u8, Fail> {
         let mut whole = vec![in heap; Tone::T0; 136]?;
@@ -177,7 +232,10 @@ mod tests {
         let heap = rt.alloc();
         check_eq(refused(heap, 136, 1105, 4521)?, 6)?;
         check_eq(refused(heap, 135, 1105, 4521)?, 1)?;
+        check_eq(refused(heap, 137, 1105, 4521)?, 1)?;
+        check_eq(refused(heap, 136, 1104, 4521)?, 1)?;
         check_eq(refused(heap, 136, 1106, 4521)?, 1)?;
-        check_eq(refused(heap, 136, 1105, 4520)?, 1)
+        check_eq(refused(heap, 136, 1105, 4520)?, 1)?;
+        check_eq(refused(heap, 136, 1105, 4522)?, 1)
     }
 }
