@@ -12,8 +12,8 @@ reduce-requires g c =
     let few : c.args.rank ≤ c.args.rows = rank_bound f.ops c.args.rows c.args.rank (column_at f.ops f.member c.args.rows c.args.steps.now) (entry_at c.args.pivots.now) c.requires.valid in
     record { room = (omega (arith, c.requires.room, mul-le-mul_left c.args.rows few), (omega (arith, c.requires.room), c.requires.room.1.1)); valid = c.requires.valid }
 
-pub record-step-requires : goal.record-step-requires
-record-step-requires g c =
+pub record_step-requires : goal.record_step-requires
+record_step-requires g c =
     let f = g.F.Field in
     let q = c.in-Some.ensures in
     let less : c.args.rank < c.args.rows = omega (arith, q.low, q.within, c.requires.room, c.reduce.auto.column) in
@@ -28,12 +28,12 @@ returns-in-Some g c =
     let less : c.args.rank < length c.args.pivots.now = omega (arith, q.low, q.within, c.requires.room) in
     record {
       valid = taken_steps f.ops f.member g.met.F.Field.laws c.args.rows c.args.rank c.args.steps.now c.args.pivots.now c.args.column.now c.reduce.new.column c.requires.room.1.1 c.reduce.ensures
-          c.in-Some.pivot.row c.in-Some.pivot.inverse q c.record-step.new.steps c.record-step.ensures.here c.record-step.ensures.others less c.requires.valid;
+          c.in-Some.pivot.row c.in-Some.pivot.inverse q c.record_step.new.steps c.record_step.ensures.here c.record_step.ensures.others less c.requires.valid;
       bound = omega (arith, q.low, q.within);
       judged = taken_pivotal f.ops f.member g.met.F.Field.laws c.args.rows c.args.rank c.args.steps.now c.args.pivots.now c.args.column.now c.reduce.new.column c.requires.room.1.1 c.reduce.ensures
           c.in-Some.pivot.row c.in-Some.pivot.inverse q;
       reduces = taken_reduces f.ops f.member g.met.F.Field.laws c.args.rows c.args.rank c.args.steps.now c.args.pivots.now c.args.column.now c.reduce.new.column c.requires.room.1.1 c.reduce.ensures
-          c.in-Some.pivot.row c.in-Some.pivot.inverse q c.record-step.new.steps c.record-step.ensures.here c.record-step.ensures.others less;
+          c.in-Some.pivot.row c.in-Some.pivot.inverse q c.record_step.new.steps c.record_step.ensures.here c.record_step.ensures.others less;
     }
 
 pub returns-in-None : goal.returns-in-None

@@ -10,8 +10,8 @@ use Rattle.judging.proofs.Copied.{test_of_copy, columns_nonzero}
 use Rattle.judging.proofs.Exactness.{passed_optimal}
 use Rattle.judging.proofs.offer_row.Goals as goal
 
-pub pack-degrees-requires : goal.pack-degrees-requires
-pack-degrees-requires g c =
+pub pack_degrees-requires : goal.pack_degrees-requires
+pack_degrees-requires g c =
     let f = g.F.Field in
     let field = field_of g.met.F.Field.laws g.met.F.Field.numbered c.inverse.ensures.invertible in
     let n = c.args.n in
@@ -20,8 +20,8 @@ pack-degrees-requires g c =
     let divisor = gcd_in f.ops f.member c.judge.new.work in
     let d = c.in-Ok.degrees.row in
     let offered = column_in f.ops f.member c.args.offered.now in
-    let taken = column_in f.ops f.member c.take-columns.new.frame in
-    let test = test_of_copy f.ops field n row divisor d offered taken (omega arith) c.take-columns.ensures.copied passed.test in
+    let taken = column_in f.ops f.member c.take_columns.new.frame in
+    let test = test_of_copy f.ops field n row divisor d offered taken (omega arith) c.take_columns.ensures.copied passed.test in
     record {
       room = (omega arith, (omega arith, omega arith));
       nonzero = columns_nonzero f.ops field n row divisor d taken (omega arith) passed.row_of.gcd test;
@@ -37,22 +37,22 @@ returns-in-Ok g c =
     let passed = c.in-Ok.ensures.answer in
     let divisor = gcd_in f.ops f.member c.judge.new.work in
     let d = c.in-Ok.degrees.row in
-    let frame = c.take-columns.new.frame in
+    let frame = c.take_columns.new.frame in
     let offered = column_in f.ops f.member c.args.offered.now in
     let taken = column_in f.ops f.member frame in
-    let same = sym c.take-columns.ensures.divisor in
+    let same = sym c.take_columns.ensures.divisor in
     let row_of = subst (λ (h : ℕ → R). RowOf f.ops n row h d) same passed.row_of in
     let polynomials : (j i : ℕ) → Polynomial f.ops (taken j i) = λ j i. (17, poly_at_below f.ops f.member frame (136 * j + 17 * i) 17) in
-    let test = subst (λ (h : ℕ → R). PassesTest f.ops (n - 1) row h d taken) same (test_of_copy f.ops field n row divisor d offered taken (omega arith) c.take-columns.ensures.copied passed.test) in
+    let test = subst (λ (h : ℕ → R). PassesTest f.ops (n - 1) row h d taken) same (test_of_copy f.ops field n row divisor d offered taken (omega arith) c.take_columns.ensures.copied passed.test) in
     record {
       answer =
           record {
             row_of = row_of;
-            copied = c.take-columns.ensures.copied;
+            copied = c.take_columns.ensures.copied;
             optimal = passed_optimal f.ops field n row (divisor_in f.ops f.member frame) d taken (omega arith) polynomials row_of test;
             divisor_degree = subst (λ (h : ℕ → R). Degree f.ops h c.in-Ok.degrees.divisor) same passed.divisor_degree;
-            column_degrees = c.pack-degrees.ensures.degrees;
-            rest = c.take-columns.ensures.rest;
+            column_degrees = c.pack_degrees.ensures.degrees;
+            rest = c.take_columns.ensures.rest;
             within = passed.within;
           };
       exact = c.in-Ok.ensures.exact;

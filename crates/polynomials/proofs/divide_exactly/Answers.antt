@@ -7,8 +7,8 @@ use Rattle.polynomials.proofs.Divisions.{exactly_divided}
 use Rattle.tables.proofs.Parts.{poly_at_in, poly_at_below, poly_at_narrow}
 use Rattle.polynomials.proofs.divide_exactly.Goals as goal
 
-pub inverse-at-inverse-requires : goal.inverse-at-inverse-requires
-inverse-at-inverse-requires g c =
+pub inverse_at-inverse-requires : goal.inverse_at-inverse-requires
+inverse_at-inverse-requires g c =
     let f = g.F.Field in
     record {
       room = omega arith;
@@ -20,7 +20,7 @@ divide-requires g c =
     record {
       room = (omega arith, (omega arith, omega arith));
       apart = (λ k w v. c.requires.apart.0 k w (omega arith, omega arith), (c.requires.apart.1.0, λ k w v. c.requires.apart.1.1 k (omega arith, omega arith) v));
-      unit = c.inverse-at-inverse.ensures.value;
+      unit = c.inverse_at-inverse.ensures.value;
       cleared = c.requires.cleared;
     }
 
@@ -33,7 +33,7 @@ returns g c =
     let q = poly_at f.ops f.member c.divide.new.table c.args.quotient c.args.width in
     let r = poly_at f.ops f.member c.divide.new.table c.args.base c.args.width in
     let b-is = poly_at_narrow f.ops f.member t c.args.divisor (c.args.e + 1) c.args.width (omega arith) (below_mono f.ops L (suc c.args.e) (c.args.e + 1) b (omega arith) c.requires.degree.below) in
-    let both = exactly_divided f.ops (field_of g.met.F.Field.laws g.met.F.Field.numbered c.inverse-at-inverse.ensures.invertible)
+    let both = exactly_divided f.ops (field_of g.met.F.Field.laws g.met.F.Field.numbered c.inverse_at-inverse.ensures.invertible)
     (poly_at f.ops f.member t c.args.base c.args.width) b q r c.args.e c.requires.degree c.requires.divides
     (c.args.width, poly_at_below f.ops f.member c.divide.new.table c.args.quotient c.args.width)
     c.divide.ensures.small

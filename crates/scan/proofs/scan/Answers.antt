@@ -10,11 +10,11 @@ use Rattle.algebra.proofs.Fields.{field_of}
 use Rattle.scan.proofs.Walking as Walking
 use Rattle.scan.proofs.scan.Goals as goal
 
-pub take-column-requires : goal.take-column-requires
-take-column-requires g c = record { room = (omega (arith, Walking.steps_room (2 * c.args.d + 1) (omega arith)), (omega arith, omega arith)); valid = c.walk-counts.ensures.walked.are }
+pub take_column-requires : goal.take_column-requires
+take_column-requires g c = record { room = (omega (arith, Walking.steps_room (2 * c.args.d + 1) (omega arith)), (omega arith, omega arith)); valid = c.walk-counts.ensures.walked.are }
 
-pub write-at-requires : goal.write-at-requires
-write-at-requires g c =
+pub write_at-requires : goal.write_at-requires
+write_at-requires g c =
     let f = g.F.Field in
     let laws = g.met.F.Field in
     let a = c.args in
@@ -38,6 +38,6 @@ returns g c =
     let both =
     Walking.columns_written f.ops (field_of laws.laws laws.numbered c.requires.field) f.member a.n a.d (2 * a.d + 1) (generator_in f.ops f.member a.row.now) c.requires.sized.0 c.requires.sized.1.0 c.requires.sized.1.1 (omega arith) c.requires.degree
     c.walk-counts.result.rank c.walk-counts.result.basics t.steps t.pivots t.places t.found t.frame c.walk-counts.ensures.walked c.requires.coprime
-    (column_at f.ops f.member (2 * a.d + 1) c.take-column.new.steps) (entry_at c.take-column.new.pivots) (at f.ops f.member c.write-unit.new.column) (at f.ops f.member c.take-column.new.column) c.write-unit.ensures
-    c.take-column.result c.take-column.ensures c.write-at.new.frame (search rules) in
-    record { columns = both.0; rest = both.1; behind = λ k l. c.write-at.ensures.behind k l ∙ c.walk-counts.ensures.behind k l }
+    (column_at f.ops f.member (2 * a.d + 1) c.take_column.new.steps) (entry_at c.take_column.new.pivots) (at f.ops f.member c.write_unit.new.column) (at f.ops f.member c.take_column.new.column) c.write_unit.ensures
+    c.take_column.result c.take_column.ensures c.write_at.new.frame (search rules) in
+    record { columns = both.0; rest = both.1; behind = λ k l. c.write_at.ensures.behind k l ∙ c.walk-counts.ensures.behind k l }

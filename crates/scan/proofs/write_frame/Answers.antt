@@ -12,7 +12,7 @@ use Rattle.scan.proofs.write_frame.Goals as goal
 pub scan-requires : goal.scan-requires
 scan-requires g c =
     let f = g.F.Field in
-    let parts = c.split-at-mut-tables in
+    let parts = c.split_at_mut-tables in
     let row : quotient_in f.ops f.member c.args.work.now ≡ generator_in f.ops f.member parts.result.1.now = row_part f.ops f.member c.args.work.now parts.result.0.now parts.result.1.now parts.ensures.value parts.ensures.front-len in
     record {
       sized = c.requires.sized;
@@ -20,16 +20,16 @@ scan-requires g c =
       field = c.inverse.ensures.invertible;
       degree = subst (λ (r : ℕ → ℕ → f.Member). VectorDegree f.ops c.args.n r c.args.d) row c.requires.degree;
       coprime = subst (λ (r : ℕ → ℕ → f.Member). Combination f.ops c.args.n r (series f.ops).one) row c.requires.coprime;
-      cleared = λ k l. c.copy-from.ensures.others k (λ w. omega arith) ∙ cleared_part f.ops f.member c.clear-part.new.table 1088 c.clear-part.ensures.zero k l;
+      cleared = λ k l. c.copy_from.ensures.others k (λ w. omega arith) ∙ cleared_part f.ops f.member c.clear_part.new.table 1088 c.clear_part.ensures.zero k l;
     }
 
 pub returns : goal.returns
 returns g c =
     let f = g.F.Field in
-    let parts = c.split-at-mut-tables in
+    let parts = c.split_at_mut-tables in
     let row : quotient_in f.ops f.member c.args.work.now ≡ generator_in f.ops f.member parts.result.1.now = row_part f.ops f.member c.args.work.now parts.result.0.now parts.result.1.now parts.ensures.value parts.ensures.front-len in
     record {
       columns = subst (λ (r : ℕ → ℕ → f.Member). (p : ℕ → ℕ) × FrameColumns f.ops (c.args.n - 1) c.args.d r p (column_in f.ops f.member c.scan.new.frame)) (sym row) c.scan.ensures.columns;
-      divisor = part_same f.ops f.member c.copy-from.new.table c.scan.new.frame 1088 17 (gcd_in f.ops f.member c.args.work.now) c.scan.ensures.behind c.copy-from.ensures.copy;
+      divisor = part_same f.ops f.member c.copy_from.new.table c.scan.new.frame 1088 17 (gcd_in f.ops f.member c.args.work.now) c.scan.ensures.behind c.copy_from.ensures.copy;
       rest = c.scan.ensures.rest;
     }

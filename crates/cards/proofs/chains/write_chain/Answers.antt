@@ -6,14 +6,14 @@ use Rattle.cards.proofs.Terms.{terms_from, from_zero, from_nonzero, from_all, re
 use Rattle.cards.proofs.chains.write_chain.Goals as goal
 use Rattle.cards.proofs.chains.write_chain.Goals.{then-code-ne0, else-code-ne0}
 
-pub overflow-sub-left : goal.overflow-sub-left
-overflow-sub-left g c =
+pub overflow_sub-left : goal.overflow_sub-left
+overflow_sub-left g c =
     let f = g.F.Field in
     let e = ap length (from_nonzero (λ x. f.number (f.member x)) c.loop-power.power c.args.row.now c.index-row-power.result c.code-code.result c.loop-power-test.true c.index-row-power.is c.code-code.ensures c.if-code-ne0.true) in
     omega (arith, e, c.loop-power.invariant)
 
-pub write-record-requires : goal.write-record-requires
-write-record-requires g c =
+pub write_record-requires : goal.write_record-requires
+write_record-requires g c =
     let f = g.F.Field in
     let e = ap length (from_nonzero (λ x. f.number (f.member x)) c.loop-power.power c.args.row.now c.index-row-power.result c.code-code.result c.loop-power-test.true c.index-row-power.is c.code-code.ensures c.if-code-ne0.true) in
     omega (arith, e, c.loop-power.invariant)
@@ -31,7 +31,7 @@ loop-power-preserved g c =
             omega (arith, w.left-is, w.next-is, n, c.loop-power.invariant),
             omega (arith, w.left-is, w.at_is, n, c.if-code-ne0.auto.buffer, c.loop-power.invariant),
             records_step c.loop-power.at c.loop-power.next c.loop-power.power c.code-code.result w.link.result _ _ c.loop-power.buffer _ _ _
-                w.at_is w.next-is (w.buffer-is ∙ w.write-record.ensures) e (w.link.ensures _ (omega (arith, w.left-is, left)) ∙ ap (λ k. link k (terms_from (λ x. f.number (f.member x)) (c.loop-power.power + 1) c.args.row.now)) (sym w.next-is))
+                w.at_is w.next-is (w.buffer-is ∙ w.write_record.ensures) e (w.link.ensures _ (omega (arith, w.left-is, left)) ∙ ap (λ k. link k (terms_from (λ x. f.number (f.member x)) (c.loop-power.power + 1) c.args.row.now)) (sym w.next-is))
                 ∙ c.loop-power.invariant.4,
           )
       | else-code-ne0 w ↦

@@ -11,8 +11,8 @@ loop-i-init g c =
     let p : c.args.n + 4 * 1 - 1 ≡ 3 + c.args.n = omega arith in
     (omega arith, omega arith, ap (λ k. over k (chains 1 (generators_from (λ x. f.number (f.member x)) c.args.n c.args.table.now 0)) c.args.buffer.now) p)
 
-pub write-chain-next-requires : goal.write-chain-next-requires
-write-chain-next-requires g c =
+pub write_chain-next-requires : goal.write_chain-next-requires
+write_chain-next-requires g c =
     let f = g.F.Field in
     let b = length_row_terms (λ x. f.number (f.member x)) c.row.result.now in
     record { numbers = (omega (arith, c.row.ensures.len), omega (arith, c.loop-i.invariant)); room = omega (arith, b, c.row.ensures.len, c.loop-i.invariant, c.loop-i.auto.buffer, c.requires) }
@@ -26,11 +26,11 @@ loop-i-preserved g c =
     let e = from_next (λ x. f.number (f.member x)) n t i c.loop-i-test.true in
     let same = ap (λ l. terms 0 (map (λ x. f.number (f.member x)) l)) c.row.ensures.value in
     let b = length_row_terms (λ x. f.number (f.member x)) c.row.result.now in
-    let next : c.write-chain-next.result ≡ c.loop-i.next + length (row_terms (λ x. f.number (f.member x)) n t i) = c.write-chain-next.ensures.next ∙ ap (λ ts. c.loop-i.next + length ts) same in (
-      omega (arith, c.write-chain-next.ensures.next, c.loop-i.invariant),
-      omega (arith, c.write-chain-next.ensures.next, b, c.row.ensures.len, c.loop-i.invariant),
-      chains_step (n + 4 * c.loop-i.next - 1) (n + 4 * c.write-chain-next.result - 1) c.loop-i.next c.write-chain-next.result (row_terms (λ x. f.number (f.member x)) n t i) _ _ c.loop-i.buffer c.write-chain-next.new.buffer
-          next (omega (arith, next, c.loop-i.invariant)) (c.write-chain-next.ensures.after ∙ ap (λ ts. over (n + 4 * c.loop-i.next - 1) (records c.loop-i.next ts) c.loop-i.buffer) same) e
+    let next : c.write_chain-next.result ≡ c.loop-i.next + length (row_terms (λ x. f.number (f.member x)) n t i) = c.write_chain-next.ensures.next ∙ ap (λ ts. c.loop-i.next + length ts) same in (
+      omega (arith, c.write_chain-next.ensures.next, c.loop-i.invariant),
+      omega (arith, c.write_chain-next.ensures.next, b, c.row.ensures.len, c.loop-i.invariant),
+      chains_step (n + 4 * c.loop-i.next - 1) (n + 4 * c.write_chain-next.result - 1) c.loop-i.next c.write_chain-next.result (row_terms (λ x. f.number (f.member x)) n t i) _ _ c.loop-i.buffer c.write_chain-next.new.buffer
+          next (omega (arith, next, c.loop-i.invariant)) (c.write_chain-next.ensures.after ∙ ap (λ ts. over (n + 4 * c.loop-i.next - 1) (records c.loop-i.next ts) c.loop-i.buffer) same) e
           ∙ c.loop-i.invariant.2,
     )
 

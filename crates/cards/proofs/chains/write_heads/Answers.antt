@@ -5,8 +5,8 @@ use Rattle.cards.proofs.Overwriting.{over_nothing}
 use Rattle.cards.proofs.Generators.{generators_from, row_terms, from_first, from_next, from_last, heads_step}
 use Rattle.cards.proofs.chains.write_heads.Goals as goal
 
-pub overflow-add-next : goal.overflow-add-next
-overflow-add-next g c = record { fits = omega (arith, c.count-terms-count.ensures.bound, c.row.ensures.len, c.loop-i.invariant) }
+pub overflow_add-next : goal.overflow_add-next
+overflow_add-next g c = record { fits = omega (arith, c.count_terms-count.ensures.bound, c.row.ensures.len, c.loop-i.invariant) }
 
 pub loop-i-preserved : goal.loop-i-preserved
 loop-i-preserved g c =
@@ -16,11 +16,11 @@ loop-i-preserved g c =
     let i = c.loop-i.i in
     let e = from_next (λ x. f.number (f.member x)) n t i c.loop-i-test.true in
     let s = ap term_count e in
-    let ts : c.count-terms-count.result ≡ length (row_terms (λ x. f.number (f.member x)) n t i) = c.count-terms-count.ensures.value ∙ ap (λ l. length (terms 0 (map (λ x. f.number (f.member x)) l))) c.row.ensures.value in (
+    let ts : c.count_terms-count.result ≡ length (row_terms (λ x. f.number (f.member x)) n t i) = c.count_terms-count.ensures.value ∙ ap (λ l. length (terms 0 (map (λ x. f.number (f.member x)) l))) c.row.ensures.value in (
       omega (arith, c.loop-i.invariant),
-      omega (arith, c.count-terms-count.ensures.bound, c.row.ensures.len, c.loop-i.invariant),
+      omega (arith, c.count_terms-count.ensures.bound, c.row.ensures.len, c.loop-i.invariant),
       omega (arith, s, ts, c.loop-i.invariant),
-      heads_step (3 + i) (3 + (i + 1)) c.loop-i.next c.count-terms-count.result c.link.result (row_terms (λ x. f.number (f.member x)) n t i) _ _ c.loop-i.buffer (omega arith) ts (c.link.ensures _ ts) e
+      heads_step (3 + i) (3 + (i + 1)) c.loop-i.next c.count_terms-count.result c.link.result (row_terms (λ x. f.number (f.member x)) n t i) _ _ c.loop-i.buffer (omega arith) ts (c.link.ensures _ ts) e
           ∙ c.loop-i.invariant.3,
     )
 

@@ -4,24 +4,24 @@ use Rattle.cards.specs.Chains.{byte, record_start}
 use Rattle.cards.proofs.Walks.{stops_here, stops_later, enters_here}
 use Rattle.cards.proofs.read.+read_chain.Goals as goal
 
-pub returns-in-err-term : goal.returns-in-err-term
-returns-in-err-term g t c =
+pub returns-in_err-term : goal.returns-in_err-term
+returns-in_err-term g t c =
     let card = c.args.card.now in
-    let p = err_from_is_err_and c.from-residual.result c.from-residual.ensures.1 in
+    let p = err_from_is_err_and c.from_residual.result c.from_residual.ensures.1 in
     let starts : 3 + c.from-2.result + 4 * (c.from-link.result - 1) ≡ record_start card c.args.place = cc (c.from-2.ensures, c.from-link.ensures) in
     let one : 1 ≤ byte card c.args.place = omega (arith, c.from-link.ensures, c.if-link-eq0.false) in
     let most : byte card c.args.place ≤ byte card 2 = omega (arith, c.from-link.ensures, c.from.ensures, c.if-link-from.false) in
-    rw (p.1, p.2) ([], stops_here g.F.Field.order card c.args.floor c.args.place _ starts one most _ c.in-err-term.ensures.answer)
+    rw (p.1, p.2) ([], stops_here g.F.Field.order card c.args.floor c.args.place _ starts one most _ c.in_err-term.ensures.answer)
 
-pub returns-in-err-read-chain : goal.returns-in-err-read-chain
-returns-in-err-read-chain g t c =
+pub returns-in_err-read_chain : goal.returns-in_err-read_chain
+returns-in_err-read_chain g t c =
     let card = c.args.card.now in
-    let p = err_from_is_err_and c.from-residual-in-err-read-chain.result c.from-residual-in-err-read-chain.ensures.1 in
+    let p = err_from_is_err_and c.from_residual-in_err-read_chain.result c.from_residual-in_err-read_chain.ensures.1 in
     let starts : 3 + c.from-2.result + 4 * (c.from-link.result - 1) ≡ record_start card c.args.place = cc (c.from-2.ensures, c.from-link.ensures) in
     let one : 1 ≤ byte card c.args.place = omega (arith, c.from-link.ensures, c.if-link-eq0.false) in
     let most : byte card c.args.place ≤ byte card 2 = omega (arith, c.from-link.ensures, c.from.ensures, c.if-link-from.false) in
-    let term = c.in-ok-term.ensures in
-    rw (p.1, p.2) (stops_later g.F.Field.order card c.args.floor c.args.place _ starts one most _ _ term.answer term.value.0 c.in-err-read-chain.ensures)
+    let term = c.in_ok-term.ensures in
+    rw (p.1, p.2) (stops_later g.F.Field.order card c.args.floor c.args.place _ starts one most _ _ term.answer term.value.0 c.in_err-read_chain.ensures)
 
 pub returns : goal.returns
 returns g t c =
@@ -30,12 +30,12 @@ returns g t c =
     let starts : 3 + c.from-2.result + 4 * (c.from-link.result - 1) ≡ record_start card c.args.place = cc (c.from-2.ensures, c.from-link.ensures) in
     let one : 1 ≤ byte card c.args.place = omega (arith, c.from-link.ensures, c.if-link-eq0.false) in
     let most : byte card c.args.place ≤ byte card 2 = omega (arith, c.from-link.ensures, c.from.ensures, c.if-link-from.false) in
-    let term = c.in-ok-term.ensures in
-    enters_here f.order card c.args.floor c.args.place _ starts one most f.ops f.member f.number c.args.i _ c.args.table.now c.read-chain.new.table _
-    (search rules) term.answer term.value.0 term.value.1 c.in-ok-read-chain.ensures
+    let term = c.in_ok-term.ensures in
+    enters_here f.order card c.args.floor c.args.place _ starts one most f.ops f.member f.number c.args.i _ c.args.table.now c.read_chain.new.table _
+    (search rules) term.answer term.value.0 term.value.1 c.in_ok-read_chain.ensures
 
-pub offset-bounds-table-i : goal.offset-bounds-table-i
-offset-bounds-table-i g t c =
-    let low = c.in-ok-term.ensures.low in
-    let h : 17 * c.args.i + c.in-ok-term.term.power < length c.read-chain.new.table = omega (arith, low, c.requires.room, c.read-chain.auto.table) in
+pub offset_bounds-table-i : goal.offset_bounds-table-i
+offset_bounds-table-i g t c =
+    let low = c.in_ok-term.ensures.low in
+    let h : 17 * c.args.i + c.in_ok-term.term.power < length c.read_chain.new.table = omega (arith, low, c.requires.room, c.read_chain.auto.table) in
     search rules

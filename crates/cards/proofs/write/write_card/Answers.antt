@@ -12,22 +12,22 @@ returns g c =
     let f = g.F.Field in
     let codes = map (λ x. f.number (f.member x)) c.args.generators.now in
     let n = c.count-n.result in
-    let m = c.write-heads-m.result in
+    let m = c.write_heads-m.result in
     let gs = generators n codes in
     let zeros = c.clear.new.buffer in
-    let counted : c.write-chains.new.buffer ≡ over (3 + n) (chains 1 gs) (set c.write-heads-m.new.buffer 2 m) = search rules in
-    let written : c.write-chains.new.buffer ≡ card c.kind.result gs ++ replicate (555 - (3 + n + 4 * m)) 0 =
+    let counted : c.write_chains.new.buffer ≡ over (3 + n) (chains 1 gs) (set c.write_heads-m.new.buffer 2 m) = search rules in
+    let written : c.write_chains.new.buffer ≡ card c.kind.result gs ++ replicate (555 - (3 + n + 4 * m)) 0 =
     counted
-    ∙ ap (λ b. over (3 + n) (chains 1 gs) (set b 2 m)) c.write-heads-m.ensures.after
-    ∙ card_over c.kind.result n m gs zeros (length_generators n codes) c.write-heads-m.ensures.count
-    (c.clear.ensures ∙ ap (λ k. replicate k 0) c.if-buffer-ne555.false) (omega (arith, c.write-heads-m.ensures.bound, c.count-n.ensures, c.args.draft.now)) in
+    ∙ ap (λ b. over (3 + n) (chains 1 gs) (set b 2 m)) c.write_heads-m.ensures.after
+    ∙ card_over c.kind.result n m gs zeros (length_generators n codes) c.write_heads-m.ensures.count
+    (c.clear.ensures ∙ ap (λ k. replicate k 0) c.if-buffer-ne555.false) (omega (arith, c.write_heads-m.ensures.bound, c.count-n.ensures, c.args.draft.now)) in
     let long : 3 + n + 4 * m ≡ length (card f.tag (generators c.args.draft.now.n codes)) =
-    (omega (arith, length_generators n codes, c.write-heads-m.ensures.count)) ∙ sym (length_card f.tag gs) ∙ ap (λ k. length (card f.tag (generators k codes))) c.count-n.ensures in
-    let whole : c.write-chains.new.buffer ≡ card f.tag (generators c.args.draft.now.n codes) ++ replicate (555 - (3 + n + 4 * m)) 0 =
+    (omega (arith, length_generators n codes, c.write_heads-m.ensures.count)) ∙ sym (length_card f.tag gs) ∙ ap (λ k. length (card f.tag (generators k codes))) c.count-n.ensures in
+    let whole : c.write_chains.new.buffer ≡ card f.tag (generators c.args.draft.now.n codes) ++ replicate (555 - (3 + n + 4 * m)) 0 =
     written
     ∙ ap (λ k. card k gs ++ replicate (555 - (3 + n + 4 * m)) 0) c.kind.ensures.value
     ∙ ap (λ k. card f.tag (generators k codes) ++ replicate (555 - (3 + n + 4 * m)) 0) c.count-n.ensures in
-    let start : take (3 + n + 4 * m) c.write-chains.new.buffer ≡ card f.tag (generators c.args.draft.now.n codes) =
+    let start : take (3 + n + 4 * m) c.write_chains.new.buffer ≡ card f.tag (generators c.args.draft.now.n codes) =
     ap (take (3 + n + 4 * m)) whole ∙ ap (λ k. take k (card f.tag (generators c.args.draft.now.n codes) ++ replicate (555 - (3 + n + 4 * m)) 0)) long
     ∙ take-append_seam (card f.tag (generators c.args.draft.now.n codes)) (replicate (555 - (3 + n + 4 * m)) 0) in
     record {

@@ -16,8 +16,8 @@ loop-e-init g c =
       λ k n m. refl,
     )
 
-pub euclid-step-requires : goal.euclid-step-requires
-euclid-step-requires g c =
+pub euclid_step-requires : goal.euclid_step-requires
+euclid_step-requires g c =
     let f = g.F.Field in
     let d = c.in-Some.ensures in
     let narrow = poly_at_narrow f.ops f.member c.loop-e.table c.args.right c.loop-e.lower c.args.width c.loop-e.invariant.4 c.loop-e.invariant.2 in
@@ -51,7 +51,7 @@ returns g c =
     let f = g.F.Field in
     let now = c.loop-e.table in
     let narrow = poly_at_narrow f.ops f.member now c.args.right c.loop-e.lower c.args.width c.loop-e.invariant.4 c.loop-e.invariant.2 in
-    let zero = sym narrow ∙ c.in-default.ensures in
+    let zero = sym narrow ∙ c.in_default.ensures in
     record {
       divisors = gcd_at_end f.ops g.met.F.Field.laws.ring
           (poly_at f.ops f.member c.args.table.now c.args.left c.args.width) (poly_at f.ops f.member c.args.table.now c.args.right c.args.width)

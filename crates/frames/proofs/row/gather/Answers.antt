@@ -10,8 +10,8 @@ loop-i-init g c = let f = g.F.Field in gather_start f.ops g.met.F.Field.laws.rin
 pub loop-i-preserved : goal.loop-i-preserved
 loop-i-preserved g c =
     let f = g.F.Field in
-    gather_step f.ops g.met.F.Field.laws.ring f.member c.loop-i.i (generator_in f.ops f.member c.args.generators.now) c.loop-i.work c.copy-from.new.table c.euclid.new.table
-    c.loop-i.invariant.0 c.loop-i.invariant.1 c.copy-from.ensures.copy c.copy-from.ensures.others c.euclid.ensures.divisors c.euclid.ensures.cleared c.euclid.ensures.others
+    gather_step f.ops g.met.F.Field.laws.ring f.member c.loop-i.i (generator_in f.ops f.member c.args.generators.now) c.loop-i.work c.copy_from.new.table c.euclid.new.table
+    c.loop-i.invariant.0 c.loop-i.invariant.1 c.copy_from.ensures.copy c.copy_from.ensures.others c.euclid.ensures.divisors c.euclid.ensures.cleared c.euclid.ensures.others
 
 pub returns : goal.returns
 returns g c =

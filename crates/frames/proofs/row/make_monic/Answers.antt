@@ -4,8 +4,8 @@ use Rattle.tables.proofs.Parts.{poly_at_in}
 use Rattle.frames.proofs.RowSteps.{monic_like}
 use Rattle.frames.proofs.row.make_monic.Goals as goal
 
-pub inverse-at-inverse-requires : goal.inverse-at-inverse-requires
-inverse-at-inverse-requires g c =
+pub inverse_at-inverse-requires : goal.inverse_at-inverse-requires
+inverse_at-inverse-requires g c =
     let f = g.F.Field in
     let d = c.in-Some.ensures in
     record {
@@ -18,6 +18,6 @@ returns-in-Some g c =
     let f = g.F.Field in
     let d = c.in-Some.ensures in
     record {
-      monic = monic_like f.ops g.met.F.Field.laws.ring f.member (field_of g.met.F.Field.laws g.met.F.Field.numbered c.inverse-at-inverse.ensures.invertible) c.in-Some.e (f.member c.inverse-at-inverse.result) c.args.work.now c.scale.new.table d.0 d.1 c.inverse-at-inverse.ensures.value c.scale.ensures.multiple;
+      monic = monic_like f.ops g.met.F.Field.laws.ring f.member (field_of g.met.F.Field.laws g.met.F.Field.numbered c.inverse_at-inverse.ensures.invertible) c.in-Some.e (f.member c.inverse_at-inverse.result) c.args.work.now c.scale.new.table d.0 d.1 c.inverse_at-inverse.ensures.value c.scale.ensures.multiple;
       others = c.scale.ensures.others;
     }

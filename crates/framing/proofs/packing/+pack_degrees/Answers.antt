@@ -3,15 +3,15 @@ use Rattle.frames.specs.Rows.{column_in}
 use Rattle.framing.proofs.ColumnDegrees.{highest_degree, degrees_more, packed_below, eight_bytes}
 use Rattle.framing.proofs.packing.+pack_degrees.Goals as goal
 
-pub overflow-mul-result : goal.overflow-mul-result
-overflow-mul-result g t c =
-    let below = packed_below c.args.n c.args.j 0 c.pack-degrees.result (omega arith) (omega arith) c.pack-degrees.ensures.bound in
+pub overflow_mul-result : goal.overflow_mul-result
+overflow_mul-result g t c =
+    let below = packed_below c.args.n c.args.j 0 c.pack_degrees.result (omega arith) (omega arith) c.pack_degrees.ensures.bound in
     let most = eight_bytes (c.args.n - c.args.j) (omega arith) in
     record { fits = omega arith }
 
-pub overflow-add-result : goal.overflow-add-result
-overflow-add-result g t c =
-    let below = packed_below c.args.n c.args.j c.row-degree-degree.result c.pack-degrees.result (omega arith) c.row-degree-degree.ensures.bound c.pack-degrees.ensures.bound in
+pub overflow_add-result : goal.overflow_add-result
+overflow_add-result g t c =
+    let below = packed_below c.args.n c.args.j c.row_degree-degree.result c.pack_degrees.result (omega arith) c.row_degree-degree.ensures.bound c.pack_degrees.ensures.bound in
     let most = eight_bytes (c.args.n - c.args.j) (omega arith) in
     record { fits = omega arith }
 
@@ -23,6 +23,6 @@ returns g t c =
     let frame = c.args.frame.now in
     let h : j < n = omega arith in
     record {
-      degrees = degrees_more f.ops f.member n frame j c.row-degree-degree.result c.pack-degrees.result h (highest_degree f.ops n c.row-degree-degree.result (column_in f.ops f.member frame j) (search rules) (c.requires.nonzero j h)) c.pack-degrees.ensures.degrees;
-      bound = packed_below n j c.row-degree-degree.result c.pack-degrees.result h c.row-degree-degree.ensures.bound c.pack-degrees.ensures.bound;
+      degrees = degrees_more f.ops f.member n frame j c.row_degree-degree.result c.pack_degrees.result h (highest_degree f.ops n c.row_degree-degree.result (column_in f.ops f.member frame j) (search rules) (c.requires.nonzero j h)) c.pack_degrees.ensures.degrees;
+      bound = packed_below n j c.row_degree-degree.result c.pack_degrees.result h c.row_degree-degree.ensures.bound c.pack_degrees.ensures.bound;
     }

@@ -12,7 +12,7 @@ loop-request-preserved g c = (
   search rules,
   leads_next _ _ _ _ _ _ _ _ _ _ _ c.loop-request.invariant.2
       (drop_more c.args.requests.now c.loop-request.request-index _ c.loop-request-test.true)
-      c.perform-one.ensures c.push-reserved.ensures.items,
+      c.perform_one.ensures c.push_reserved.ensures.items,
 )
 
 pub returns : goal.returns

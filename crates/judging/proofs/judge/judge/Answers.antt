@@ -12,58 +12,58 @@ use Rattle.judging.proofs.Exactness.{first_nonzero, test_passed, passed_optimal,
 use Rattle.judging.proofs.Sent.{scale_one}
 use Rattle.judging.proofs.judge.judge.Goals as goal
 
-pub returns-in-default : goal.returns-in-default
-returns-in-default g c =
+pub returns-in_default : goal.returns-in_default
+returns-in_default g c =
     let f = g.F.Field in
     let field = field_of g.met.F.Field.laws g.met.F.Field.numbered c.inverse.ensures.invertible in
     let n = c.args.n in
     let row = generator_in f.ops f.member c.args.generators.now in
     let columns = column_in f.ops f.member c.args.offered.now in
     let polynomials : (j i : ℕ) → Polynomial f.ops (columns j i) = λ j i. (17, poly_at_below f.ops f.member c.args.offered.now (136 * j + 17 * i) 17) in
-    let objects : Objects f.ops n (n - 1) row columns AllZero = every_zero refl c.in-default.ensures.0 in
+    let objects : Objects f.ops n (n - 1) row columns AllZero = every_zero refl c.in_default.ensures.0 in
     record { answer = objects; exact = objects_never f.ops field n row columns AllZero (omega arith) polynomials objects }
 
-pub returns-then-not-product-is : goal.returns-then-not-product-is
-returns-then-not-product-is g c =
+pub returns-then-not-product_is : goal.returns-then-not-product_is
+returns-then-not-product_is g c =
     let f = g.F.Field in
     let field = field_of g.met.F.Field.laws g.met.F.Field.numbered c.inverse.ensures.invertible in
     let n = c.args.n in
     let row = generator_in f.ops f.member c.args.generators.now in
     let columns = column_in f.ops f.member c.args.offered.now in
     let polynomials : (j i : ℕ) → Polynomial f.ops (columns j i) = λ j i. (17, poly_at_below f.ops f.member c.args.offered.now (136 * j + 17 * i) 17) in
-    let divisor = gcd_in f.ops f.member c.divide-by-gcd.new.work in
+    let divisor = gcd_in f.ops f.member c.divide_by_gcd.new.work in
     let all = c.in-Some.ensures in
-    let row_of : RowOf f.ops n row divisor c.in-Some.degrees.row = record { gcd = all.gcd; row = quotient_in f.ops f.member c.divide-by-gcd.new.work; divided = all.divided; degree = all.highest } in
-    let objects : Objects f.ops n (n - 1) row columns First = first_differs divisor c.in-Some.degrees.row row_of refl (λ e. c.if-not-product-is.ensures.answer (e ∙ sym (scale_one f.ops g.met.F.Field.laws.ring (f.member c.one-2.result) divisor c.one-2.ensures))) in
+    let row_of : RowOf f.ops n row divisor c.in-Some.degrees.row = record { gcd = all.gcd; row = quotient_in f.ops f.member c.divide_by_gcd.new.work; divided = all.divided; degree = all.highest } in
+    let objects : Objects f.ops n (n - 1) row columns First = first_differs divisor c.in-Some.degrees.row row_of refl (λ e. c.if-not-product_is.ensures.answer (e ∙ sym (scale_one f.ops g.met.F.Field.laws.ring (f.member c.one-2.result) divisor c.one-2.ensures))) in
     record { answer = objects; exact = objects_never f.ops field n row columns First (omega arith) polynomials objects }
 
-pub returns-in-Some-lowest-no-syzygy : goal.returns-in-Some-lowest-no-syzygy
-returns-in-Some-lowest-no-syzygy g c =
+pub returns-in-Some-lowest_no_syzygy : goal.returns-in-Some-lowest_no_syzygy
+returns-in-Some-lowest_no_syzygy g c =
     let f = g.F.Field in
     let field = field_of g.met.F.Field.laws g.met.F.Field.numbered c.inverse.ensures.invertible in
     let n = c.args.n in
     let row = generator_in f.ops f.member c.args.generators.now in
     let columns = column_in f.ops f.member c.args.offered.now in
     let polynomials : (j i : ℕ) → Polynomial f.ops (columns j i) = λ j i. (17, poly_at_below f.ops f.member c.args.offered.now (136 * j + 17 * i) 17) in
-    let divisor = gcd_in f.ops f.member c.divide-by-gcd.new.work in
+    let divisor = gcd_in f.ops f.member c.divide_by_gcd.new.work in
     let all = c.in-Some.ensures in
-    let j = c.in-Some-lowest-no-syzygy.j in
-    let row_of : RowOf f.ops n row divisor c.in-Some.degrees.row = record { gcd = all.gcd; row = quotient_in f.ops f.member c.divide-by-gcd.new.work; divided = all.divided; degree = all.highest } in
-    let first : dot (series f.ops) n row (columns 0) ≡ divisor = c.if-not-product-is.ensures.answer ∙ scale_one f.ops g.met.F.Field.laws.ring (f.member c.one-2.result) divisor c.one-2.ensures in
-    let objects : Objects f.ops n (n - 1) row columns (Check j) = no_syzygy divisor c.in-Some.degrees.row row_of first j refl c.in-Some-lowest-no-syzygy.ensures.answer in
+    let j = c.in-Some-lowest_no_syzygy.j in
+    let row_of : RowOf f.ops n row divisor c.in-Some.degrees.row = record { gcd = all.gcd; row = quotient_in f.ops f.member c.divide_by_gcd.new.work; divided = all.divided; degree = all.highest } in
+    let first : dot (series f.ops) n row (columns 0) ≡ divisor = c.if-not-product_is.ensures.answer ∙ scale_one f.ops g.met.F.Field.laws.ring (f.member c.one-2.result) divisor c.one-2.ensures in
+    let objects : Objects f.ops n (n - 1) row columns (Check j) = no_syzygy divisor c.in-Some.degrees.row row_of first j refl c.in-Some-lowest_no_syzygy.ensures.answer in
     record { answer = objects; exact = objects_never f.ops field n row columns (Check j) (omega arith) polynomials objects }
 
-pub judge-degrees-requires : goal.judge-degrees-requires
-judge-degrees-requires g c =
+pub judge_degrees-requires : goal.judge_degrees-requires
+judge_degrees-requires g c =
     let f = g.F.Field in
     let field = field_of g.met.F.Field.laws g.met.F.Field.numbered c.inverse.ensures.invertible in
     let n = c.args.n in
     let row = generator_in f.ops f.member c.args.generators.now in
     let columns = column_in f.ops f.member c.args.offered.now in
-    let divisor = gcd_in f.ops f.member c.divide-by-gcd.new.work in
+    let divisor = gcd_in f.ops f.member c.divide_by_gcd.new.work in
     record {
       sized = (omega arith, (omega arith, omega arith));
-      first = first_nonzero f.ops field n row divisor (columns 0) c.in-Some.ensures.gcd (c.if-not-product-is.ensures.answer ∙ scale_one f.ops g.met.F.Field.laws.ring (f.member c.one-2.result) divisor c.one-2.ensures);
+      first = first_nonzero f.ops field n row divisor (columns 0) c.in-Some.ensures.gcd (c.if-not-product_is.ensures.answer ∙ scale_one f.ops g.met.F.Field.laws.ring (f.member c.one-2.result) divisor c.one-2.ensures);
       field = c.inverse.ensures.invertible;
     }
 
@@ -75,12 +75,12 @@ returns-in-Err g c =
     let row = generator_in f.ops f.member c.args.generators.now in
     let columns = column_in f.ops f.member c.args.offered.now in
     let polynomials : (j i : ℕ) → Polynomial f.ops (columns j i) = λ j i. (17, poly_at_below f.ops f.member c.args.offered.now (136 * j + 17 * i) 17) in
-    let divisor = gcd_in f.ops f.member c.divide-by-gcd.new.work in
+    let divisor = gcd_in f.ops f.member c.divide_by_gcd.new.work in
     let all = c.in-Some.ensures in
-    let row_of : RowOf f.ops n row divisor c.in-Some.degrees.row = record { gcd = all.gcd; row = quotient_in f.ops f.member c.divide-by-gcd.new.work; divided = all.divided; degree = all.highest } in
-    let first : dot (series f.ops) n row (columns 0) ≡ divisor = c.if-not-product-is.ensures.answer ∙ scale_one f.ops g.met.F.Field.laws.ring (f.member c.one-2.result) divisor c.one-2.ensures in
+    let row_of : RowOf f.ops n row divisor c.in-Some.degrees.row = record { gcd = all.gcd; row = quotient_in f.ops f.member c.divide_by_gcd.new.work; divided = all.divided; degree = all.highest } in
+    let first : dot (series f.ops) n row (columns 0) ≡ divisor = c.if-not-product_is.ensures.answer ∙ scale_one f.ops g.met.F.Field.laws.ring (f.member c.one-2.result) divisor c.one-2.ensures in
     let x = c.in-Err.objection in
-    let objects : Objects f.ops n (n - 1) row columns x = by_degree divisor c.in-Some.degrees.row row_of first c.in-default-lowest-no-syzygy.ensures.answer c.in-Err.ensures in
+    let objects : Objects f.ops n (n - 1) row columns x = by_degree divisor c.in-Some.degrees.row row_of first c.in_default-lowest_no_syzygy.ensures.answer c.in-Err.ensures in
     record { answer = objects; exact = objects_never f.ops field n row columns x (omega arith) polynomials objects }
 
 pub returns-in-Ok : goal.returns-in-Ok
@@ -93,19 +93,19 @@ returns-in-Ok g c =
     let row = generator_in o f.member c.args.generators.now in
     let columns = column_in o f.member c.args.offered.now in
     let polynomials : (j i : ℕ) → Polynomial o (columns j i) = λ j i. (17, poly_at_below o f.member c.args.offered.now (136 * j + 17 * i) 17) in
-    let zeroth = c.divide-by-gcd.new.work in
-    let one = c.product-is.last.work in
-    let two = c.lowest-no-syzygy.new.work in
+    let zeroth = c.divide_by_gcd.new.work in
+    let one = c.product_is.last.work in
+    let two = c.lowest_no_syzygy.new.work in
     let divisor = gcd_in o f.member zeroth in
     let all = c.in-Some.ensures in
     let d = c.in-Some.degrees.row in
     let row_of : RowOf o n row divisor d = record { gcd = all.gcd; row = quotient_in o f.member zeroth; divided = all.divided; degree = all.highest } in
-    let first : dot (series o) n row (columns 0) ≡ divisor = c.if-not-product-is.ensures.answer ∙ scale_one o g.met.F.Field.laws.ring (f.member c.one-2.result) divisor c.one-2.ensures in
+    let first : dot (series o) n row (columns 0) ≡ divisor = c.if-not-product_is.ensures.answer ∙ scale_one o g.met.F.Field.laws.ring (f.member c.one-2.result) divisor c.one-2.ensures in
     let passed = c.in-Ok.ensures in
     let same : gcd_in o f.member two ≡ divisor =
-    poly_at_kept o f.member one two 0 67 4368 17 c.in-default-lowest-no-syzygy.ensures.others (λ k w v. omega arith)
-    ∙ poly_at_kept o f.member zeroth one 0 67 4368 17 c.if-not-product-is.ensures.others (λ k w v. omega arith) in
-    let test = test_passed o field n row divisor d columns (omega arith) first c.in-default-lowest-no-syzygy.ensures.answer passed.0 passed.1 in
+    poly_at_kept o f.member one two 0 67 4368 17 c.in_default-lowest_no_syzygy.ensures.others (λ k w v. omega arith)
+    ∙ poly_at_kept o f.member zeroth one 0 67 4368 17 c.if-not-product_is.ensures.others (λ k w v. omega arith) in
+    let test = test_passed o field n row divisor d columns (omega arith) first c.in_default-lowest_no_syzygy.ensures.answer passed.0 passed.1 in
     record {
       answer =
           record {

@@ -18,15 +18,15 @@ outside-requires g c =
       room = (omega arith, (omega arith, (omega arith, (omega arith, omega arith))));
       bound = c.requires.bound;
       field = c.requires.field;
-      independent = Test.first_independent f.ops field n (n - 1) (column_in f.ops f.member c.args.offered.now) (check_degree c.args.degrees.now) (λ j h. c.requires.degrees (suc j) (omega arith)) c.count-no-higher-count.result c.count-no-higher-count.ensures.within c.if-not-independent.ensures.answer;
+      independent = Test.first_independent f.ops field n (n - 1) (column_in f.ops f.member c.args.offered.now) (check_degree c.args.degrees.now) (λ j h. c.requires.degrees (suc j) (omega arith)) c.count_no_higher-count.result c.count_no_higher-count.ensures.within c.if-not-independent.ensures.answer;
     }
 
-pub returns-then-not-in-order : goal.returns-then-not-in-order
-returns-then-not-in-order g c =
+pub returns-then-not-in_order : goal.returns-then-not-in_order
+returns-then-not-in_order g c =
     let f = g.F.Field in
     let field = field_of g.met.F.Field.laws g.met.F.Field.numbered c.requires.field in
     let n = c.args.n in
-    not_in_degree refl (Test.unordered f.ops field n (n - 1) (column_in f.ops f.member c.args.offered.now) (check_degree c.args.degrees.now) (λ j h. c.requires.degrees (suc j) (omega arith)) c.args.d c.if-not-in-order.ensures)
+    not_in_degree refl (Test.unordered f.ops field n (n - 1) (column_in f.ops f.member c.args.offered.now) (check_degree c.args.degrees.now) (λ j h. c.requires.degrees (suc j) (omega arith)) c.args.d c.if-not-in_order.ensures)
 
 pub returns-then-not-independent : goal.returns-then-not-independent
 returns-then-not-independent g c =
@@ -46,8 +46,8 @@ returns-then-not-outside g c =
     let found : (j : ℕ) → j < n - 1 → Highest f.ops n (columns (suc j)) (δ j) = λ j h. c.requires.degrees (suc j) (omega arith) in
     let independent = c.if-not-independent.ensures.answer in
     let first = Test.found_nonzero f.ops field n (columns 0) e (c.requires.degrees 0 (omega arith)) c.requires.first in
-    first_inside refl (Test.in_degree f.ops field n (n - 1) columns δ found c.args.d c.if-not-in-order.ensures independent)
-    (λ out. c.if-not-outside.ensures (λ s. Test.outside_no f.ops field n (n - 1) columns δ found e c.count-no-higher-count.result first c.count-no-higher-count.ensures c.if-not-in-order.ensures.0 independent s out))
+    first_inside refl (Test.in_degree f.ops field n (n - 1) columns δ found c.args.d c.if-not-in_order.ensures independent)
+    (λ out. c.if-not-outside.ensures (λ s. Test.outside_no f.ops field n (n - 1) columns δ found e c.count_no_higher-count.result first c.count_no_higher-count.ensures c.if-not-in_order.ensures.0 independent s out))
 
 pub returns : goal.returns
 returns g c =
@@ -59,6 +59,6 @@ returns g c =
     let e = entry_at c.args.degrees.now 0 in
     let found : (j : ℕ) → j < n - 1 → Highest f.ops n (columns (suc j)) (δ j) = λ j h. c.requires.degrees (suc j) (omega arith) in
     let first = Test.found_nonzero f.ops field n (columns 0) e (c.requires.degrees 0 (omega arith)) c.requires.first in (
-      Test.in_degree f.ops field n (n - 1) columns δ found c.args.d c.if-not-in-order.ensures c.if-not-independent.ensures.answer,
-      Test.outside_yes f.ops field n (n - 1) columns δ found e c.count-no-higher-count.result first c.count-no-higher-count.ensures c.if-not-in-order.ensures.0 c.if-not-outside.ensures,
+      Test.in_degree f.ops field n (n - 1) columns δ found c.args.d c.if-not-in_order.ensures c.if-not-independent.ensures.answer,
+      Test.outside_yes f.ops field n (n - 1) columns δ found e c.count_no_higher-count.result first c.count_no_higher-count.ensures c.if-not-in_order.ensures.0 c.if-not-outside.ensures,
     )

@@ -10,16 +10,16 @@ returns g c =
     let o = f.ops in
     let m = f.member in
     let start = c.args.work.now in
-    let one = c.copy-from.new.table in
-    let two = c.copy-from-2.new.table in
+    let one = c.copy_from.new.table in
+    let two = c.copy_from-2.new.table in
     record {
       sum =
-          c.multiply-into.ensures.sum 33 (omega arith)
+          c.multiply_into.ensures.sum 33 (omega arith)
           ∙ ap₂ (λ (s t : ℕ → R). (series o).sum s t)
-          (poly_at_kept o m one two 17 17 34 33 c.copy-from-2.ensures.others (λ k w v. omega arith) ∙ poly_at_kept o m start one 0 17 34 33 c.copy-from.ensures.others (λ k w v. omega arith))
-          (ap₂ (λ (s t : ℕ → R). (series o).product s t) (poly_at_kept o m one two 17 17 0 17 c.copy-from-2.ensures.others (λ k w v. omega arith) ∙ c.copy-from.ensures.copy) c.copy-from-2.ensures.copy);
+          (poly_at_kept o m one two 17 17 34 33 c.copy_from-2.ensures.others (λ k w v. omega arith) ∙ poly_at_kept o m start one 0 17 34 33 c.copy_from.ensures.others (λ k w v. omega arith))
+          (ap₂ (λ (s t : ℕ → R). (series o).product s t) (poly_at_kept o m one two 17 17 0 17 c.copy_from-2.ensures.others (λ k w v. omega arith) ∙ c.copy_from.ensures.copy) c.copy_from-2.ensures.copy);
       others = λ k h.
-          c.multiply-into.ensures.others k (λ w. h (omega arith, omega arith))
-          ∙ c.copy-from-2.ensures.others k (λ w. h (omega arith, omega arith))
-          ∙ c.copy-from.ensures.others k (λ w. h (omega arith, omega arith));
+          c.multiply_into.ensures.others k (λ w. h (omega arith, omega arith))
+          ∙ c.copy_from-2.ensures.others k (λ w. h (omega arith, omega arith))
+          ∙ c.copy_from.ensures.others k (λ w. h (omega arith, omega arith));
     }

@@ -11,14 +11,14 @@ returns-in-None g c =
     let f = g.F.Field in
     let o = f.ops in
     let start = c.args.work.now in
-    let one = c.write-product.new.work in
+    let one = c.write_product.new.work in
     let x = f.member c.args.factor in
-    let sum = c.add-multiple.ensures.sum 33 (omega arith) in
-    let divisor = poly_at_kept o f.member start one 0 67 4368 17 c.write-product.ensures.others (λ k w v. omega arith) in
+    let sum = c.add_multiple.ensures.sum 33 (omega arith) in
+    let divisor = poly_at_kept o f.member start one 0 67 4368 17 c.write_product.ensures.others (λ k w v. omega arith) in
     let zero = ap (λ (y : f.Member). (series o).sum (poly_at o f.member one 34 33) (shift o 0 (scale o y (gcd_in o f.member one)))) (sym c.negate.ensures) ∙ sym sum ∙ c.in-None.ensures in
     record {
-      answer = sym c.write-product.ensures.product ∙ difference_zero o g.met.F.Field.laws.ring (poly_at o f.member one 34 33) (gcd_in o f.member one) x zero ∙ ap (scale o x) divisor;
-      others = λ k h. c.add-multiple.ensures.others k (λ w. h (omega arith, omega arith)) ∙ c.write-product.ensures.others k h;
+      answer = sym c.write_product.ensures.product ∙ difference_zero o g.met.F.Field.laws.ring (poly_at o f.member one 34 33) (gcd_in o f.member one) x zero ∙ ap (scale o x) divisor;
+      others = λ k h. c.add_multiple.ensures.others k (λ w. h (omega arith, omega arith)) ∙ c.write_product.ensures.others k h;
     }
 
 pub returns-in-Some : goal.returns-in-Some
@@ -27,10 +27,10 @@ returns-in-Some g c =
     let R = f.Member in
     let o = f.ops in
     let start = c.args.work.now in
-    let one = c.write-product.new.work in
+    let one = c.write_product.new.work in
     let x = f.member c.args.factor in
-    let sum = c.add-multiple.ensures.sum 33 (omega arith) in
-    let divisor = poly_at_kept o f.member start one 0 67 4368 17 c.write-product.ensures.others (λ k w v. omega arith) in
+    let sum = c.add_multiple.ensures.sum 33 (omega arith) in
+    let divisor = poly_at_kept o f.member start one 0 67 4368 17 c.write_product.ensures.others (λ k w v. omega arith) in
     let found = c.in-Some.ensures.1 in
     record {
       answer = λ e.
@@ -38,6 +38,6 @@ returns-in-Some g c =
           (ap (λ (h : ℕ → R). h c.in-Some.field-0)
           (sum
           ∙ ap (λ (y : R). (series o).sum (poly_at o f.member one 34 33) (shift o 0 (scale o y (gcd_in o f.member one)))) c.negate.ensures
-          ∙ zero_difference o g.met.F.Field.laws.ring (poly_at o f.member one 34 33) (gcd_in o f.member one) x (c.write-product.ensures.product ∙ e ∙ sym (ap (scale o x) divisor))));
-      others = λ k h. c.add-multiple.ensures.others k (λ w. h (omega arith, omega arith)) ∙ c.write-product.ensures.others k h;
+          ∙ zero_difference o g.met.F.Field.laws.ring (poly_at o f.member one 34 33) (gcd_in o f.member one) x (c.write_product.ensures.product ∙ e ∙ sym (ap (scale o x) divisor))));
+      others = λ k h. c.add_multiple.ensures.others k (λ w. h (omega arith, omega arith)) ∙ c.write_product.ensures.others k h;
     }

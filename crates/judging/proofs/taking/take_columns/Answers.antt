@@ -13,18 +13,18 @@ loop-j-preserved g c =
     let n = c.args.n in
     let j = c.loop-j.j in
     let offered = c.args.offered.now in
-    let after = c.copy-from-in-loop-j.new.table in (
+    let after = c.copy_from-in-loop-j.new.table in (
       λ t k l h. elim (dec_lt t j) [
-        | yes b ↦ c.copy-from-in-loop-j.ensures.others (136 * t + k) (λ w. omega arith) ∙ c.loop-j.invariant.0 t k b h
+        | yes b ↦ c.copy_from-in-loop-j.ensures.others (136 * t + k) (λ w. omega arith) ∙ c.loop-j.invariant.0 t k b h
         | no b ↦
             let e : t ≡ j = omega arith in
             ap (λ (i : ℕ). at f.ops f.member after (136 * i + k)) e
             ∙ sym (poly_at_in f.ops f.member after (136 * j) (17 * n) k h)
-            ∙ ap (λ (p : ℕ → f.Member). p k) c.copy-from-in-loop-j.ensures.copy
+            ∙ ap (λ (p : ℕ → f.Member). p k) c.copy_from-in-loop-j.ensures.copy
             ∙ poly_at_in f.ops f.member offered (136 * j) (17 * n) k h
             ∙ ap (λ (i : ℕ). at f.ops f.member offered (136 * i + k)) (sym e)
       ],
-      λ k h. c.copy-from-in-loop-j.ensures.others k (λ w. h j (omega arith) w) ∙ c.loop-j.invariant.1 k (λ t l w. h t (omega arith) w),
+      λ k h. c.copy_from-in-loop-j.ensures.others k (λ w. h j (omega arith) w) ∙ c.loop-j.invariant.1 k (λ t l w. h t (omega arith) w),
     )
 
 pub returns : goal.returns
@@ -32,7 +32,7 @@ returns g c =
     let f = g.F.Field in
     let n = c.args.n in
     let offered = c.args.offered.now in
-    let start = c.copy-from.new.table in
+    let start = c.copy_from.new.table in
     let after = c.loop-j.frame in
     record {
       copied = λ j i h l.
@@ -46,9 +46,9 @@ returns g c =
       divisor =
           poly_at_is f.ops f.member after 1088 17 (poly_at f.ops f.member start 1088 17) (poly_at_below f.ops f.member start 1088 17)
           (λ k b. c.loop-j.invariant.1 (1088 + k) (λ t l w. omega arith) ∙ sym (poly_at_in f.ops f.member start 1088 17 k b))
-          ∙ c.copy-from.ensures.copy;
+          ∙ c.copy_from.ensures.copy;
       rest = λ j i k a b l outside.
           c.loop-j.invariant.1 (136 * j + 17 * i + k) (λ t h w. outside (omega arith) (omega arith))
-          ∙ c.copy-from.ensures.others (136 * j + 17 * i + k) (λ w. omega arith)
+          ∙ c.copy_from.ensures.others (136 * j + 17 * i + k) (λ w. omega arith)
           ∙ c.clear.ensures (136 * j + 17 * i + k);
     }

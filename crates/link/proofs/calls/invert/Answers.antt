@@ -13,8 +13,8 @@ returns g c =
     let is : Inverted f.ops f.member framed.n frame block c.loop-k.message =
     λ k h. c.loop-k.invariant k (omega arith) ∙ dot_streams f.ops f.member c.generators-n.result framed.n block (column f.ops f.member frame 0) k c.generators-n.ensures framed.low in
     record {
-      answer = c.in-ok-ask.ensures.answer;
+      answer = c.in_ok-ask.ensures.answer;
       written = is;
-      home = brings_home f.ops f.member c.is-field.ensures framed.n framed.low frame framed.degree block c.loop-k.message is;
-      changes = one_symbol_changes_few f.ops f.member c.is-field.ensures framed.n framed.low frame block c.loop-k.message is;
+      home = brings_home f.ops f.member c.is_field.ensures framed.n framed.low frame framed.degree block c.loop-k.message is;
+      changes = one_symbol_changes_few f.ops f.member c.is_field.ensures framed.n framed.low frame block c.loop-k.message is;
     }

@@ -5,10 +5,10 @@ use Rattle.link.specs.Blocks.{stream, column}
 use Rattle.link.proofs.Cleanness.{clean_of, unclean_of}
 use Rattle.link.proofs.calls.is_clean.Goals as goal
 
-pub returns-then-not-clean-at : goal.returns-then-not-clean-at
-returns-then-not-clean-at g c =
+pub returns-then-not-clean_at : goal.returns-then-not-clean_at
+returns-then-not-clean_at g c =
     let f = g.F.Field in
-    unclean_of f.ops g.met.F.Field.laws.ring f.member c.args.n c.args.frame.now c.args.block.now c.loop-t.t (omega arith) c.if-not-clean-at.ensures
+    unclean_of f.ops g.met.F.Field.laws.ring f.member c.args.n c.args.frame.now c.args.block.now c.loop-t.t (omega arith) c.if-not-clean_at.ensures
 
 pub loop-t-preserved : goal.loop-t-preserved
 loop-t-preserved g c =
@@ -17,7 +17,7 @@ loop-t-preserved g c =
       | yes b ↦ c.loop-t.invariant t j b l k
       | no b ↦
           ap (λ x. dot (series f.ops) c.args.n (stream f.ops f.member c.args.n c.args.block.now) (column f.ops f.member c.args.frame.now j) x) (let e : t ≡ c.loop-t.t = omega arith in e)
-          ∙ c.if-not-clean-at.ensures j l k
+          ∙ c.if-not-clean_at.ensures j l k
     ]
 
 pub returns : goal.returns

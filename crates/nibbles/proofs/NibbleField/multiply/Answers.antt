@@ -6,6 +6,6 @@ use Rattle.nibbles.proofs.NibbleField.multiply.Goals as goal
 
 pub returns : goal.returns
 returns c =
-    c.low-bits.ensures
+    c.low_bits.ensures
     ∙ ap nibble_of (c.product_number.ensures ∙ ap₂ entry c.number.ensures.value c.number-2.ensures.value)
     ∙ product_nibble c.args.self c.args.other

@@ -2,8 +2,8 @@ use Rattle.std.proofs.Common.{ℕ, ◌*◌, ◌<◌, ap, arith}
 use Rattle.pairs.specs.Codes.{digits_below, square_below}
 use Rattle.pairs.proofs.PairField.code.Goals as goal
 
-pub overflow-cast-result-3 : goal.overflow-cast-result-3
-overflow-cast-result-3 g c =
+pub overflow_cast-result-3 : goal.overflow_cast-result-3
+overflow_cast-result-3 g c =
     let n = g.F.Field.order in
     let low = g.met.F.Field.numbered.below (g.F.Field.member c.args.self.low) in
     let high = g.met.F.Field.numbered.below (g.F.Field.member c.args.self.high) in

@@ -15,15 +15,15 @@ loop-request-init g c =
     let long = c.len.ensures in
     (let none = made.len in let room = made.capacity in omega arith, leads_start _ _ _ (vec_items c.in-Ok.answers) made.items)
 
-pub push-reserved-requires : goal.push-reserved-requires
-push-reserved-requires g c = let room = c.loop-request.invariant.0 in let step = c.in-Some.ensures.steps.1 in omega arith
+pub push_reserved-requires : goal.push_reserved-requires
+push_reserved-requires g c = let room = c.loop-request.invariant.0 in let step = c.in-Some.ensures.steps.1 in omega arith
 
 pub loop-request-preserved : goal.loop-request-preserved
 loop-request-preserved g c =
     let room = c.loop-request.invariant.0 in
     let step = c.in-Some.ensures.steps in (
-      let fewer = step.1 in let more = c.push-reserved.ensures.len in let same = c.push-reserved.ensures.capacity in omega arith,
-      leads_next _ _ _ _ _ _ _ _ _ _ _ c.loop-request.invariant.1 step.0 c.perform-one-stepped.ensures c.push-reserved.ensures.items,
+      let fewer = step.1 in let more = c.push_reserved.ensures.len in let same = c.push_reserved.ensures.capacity in omega arith,
+      leads_next _ _ _ _ _ _ _ _ _ _ _ c.loop-request.invariant.1 step.0 c.perform_one-stepped.ensures c.push_reserved.ensures.items,
     )
 
 pub returns : goal.returns

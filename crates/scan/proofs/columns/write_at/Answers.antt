@@ -10,8 +10,8 @@ use Rattle.scan.proofs.columns.write_at.Goals as goal
 pub loop-t-preserved : goal.loop-t-preserved
 loop-t-preserved g c =
     let f = g.F.Field in
-    at_places_more f.ops f.member c.args.n c.args.j (entry_at c.args.places.now) (at f.ops f.member c.args.list.now) c.args.rank c.loop-t.t c.args.frame.now c.loop-t.frame c.put-at.new.frame
-    c.requires.sized.0 c.requires.sized.1.0 c.loop-t-test.true c.requires.rising c.loop-t.invariant (c.put-at.ensures.here ∙ c.get.ensures) c.put-at.ensures.others
+    at_places_more f.ops f.member c.args.n c.args.j (entry_at c.args.places.now) (at f.ops f.member c.args.list.now) c.args.rank c.loop-t.t c.args.frame.now c.loop-t.frame c.put_at.new.frame
+    c.requires.sized.0 c.requires.sized.1.0 c.loop-t-test.true c.requires.rising c.loop-t.invariant (c.put_at.ensures.here ∙ c.get.ensures) c.put_at.ensures.others
 
 pub returns : goal.returns
 returns g c =

@@ -18,8 +18,8 @@ loop-q-init g c =
       λ k l. refl,
     )
 
-pub walk-place-counts-requires : goal.walk-place-counts-requires
-walk-place-counts-requires g c =
+pub walk_place-counts-requires : goal.walk_place-counts-requires
+walk_place-counts-requires g c =
     let more = ap (λ t. c.args.n * t) (add-one c.args.d) in
     record {
       sized = (c.requires.sized.0, (c.requires.sized.1.0, (c.requires.sized.1.1.0, (c.requires.sized.1.1.1, omega arith))));
@@ -31,7 +31,7 @@ walk-place-counts-requires g c =
     }
 
 pub loop-q-preserved : goal.loop-q-preserved
-loop-q-preserved g c = (rw add-one c.walk-place-counts.ensures.walked, λ k l. c.walk-place-counts.ensures.behind k l ∙ c.loop-q.invariant.1 k l)
+loop-q-preserved g c = (rw add-one c.walk_place-counts.ensures.walked, λ k l. c.walk_place-counts.ensures.behind k l ∙ c.loop-q.invariant.1 k l)
 
 pub returns : goal.returns
 returns g c =

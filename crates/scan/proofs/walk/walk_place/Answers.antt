@@ -22,40 +22,40 @@ returns-then-found-q g c =
       behind = λ k l. refl;
     }
 
-pub take-column-requires : goal.take-column-requires
-take-column-requires g c = record { room = (omega (arith, Walking.steps_room c.args.rows (omega arith)), (omega arith, omega arith)); valid = c.requires.walked.are }
+pub take_column-requires : goal.take_column-requires
+take_column-requires g c = record { room = (omega (arith, Walking.steps_room c.args.rows (omega arith)), (omega arith, omega arith)); valid = c.requires.walked.are }
 
-pub returns-then-take-column : goal.returns-then-take-column
-returns-then-take-column g c =
+pub returns-then-take_column : goal.returns-then-take_column
+returns-then-take_column g c =
     let f = g.F.Field in
     let laws = g.met.F.Field in
     let a = c.args in
     let moved =
     Walking.walked_pivot f.ops (field_of laws.laws laws.numbered c.requires.field) f.member a.n a.d a.rows (generator_in f.ops f.member a.row.now) c.requires.sized.0 c.requires.sized.1.0 c.requires.sized.1.1.0 c.requires.sized.1.1.1.0 c.requires.degree
     a.q a.counts.rank a.counts.basics a.steps.now a.pivots.now a.places.now a.found.now a.frame.now c.requires.walked
-    c.take-column.new.steps c.take-column.new.pivots (at f.ops f.member c.write-list.new.column) (at f.ops f.member c.take-column.new.column) (λ k l. c.write-list.ensures k (omega arith)) c.requires.kept.0 c.if-take-column.ensures in
+    c.take_column.new.steps c.take_column.new.pivots (at f.ops f.member c.write_list.new.column) (at f.ops f.member c.take_column.new.column) (λ k l. c.write_list.ensures k (omega arith)) c.requires.kept.0 c.if-take_column.ensures in
     record { walked = rw add-one moved; behind = λ k l. refl }
 
-pub overflow-add-next : goal.overflow-add-next
-overflow-add-next g c =
+pub overflow_add-next : goal.overflow_add-next
+overflow_add-next g c =
     let f = g.F.Field in
     let laws = g.met.F.Field in
     let a = c.args in
     let few : suc a.counts.basics < a.n =
     Walking.check_room f.ops (field_of laws.laws laws.numbered c.requires.field) f.member a.n a.d a.rows (generator_in f.ops f.member a.row.now) c.requires.sized.0 c.requires.sized.1.0 c.requires.sized.1.1.0 c.requires.sized.1.1.1.0 c.requires.degree
     a.q a.counts.rank a.counts.basics a.steps.now a.pivots.now a.places.now a.found.now a.frame.now c.requires.walked
-    c.take-column.new.steps c.take-column.new.pivots (at f.ops f.member c.write-list.new.column) (at f.ops f.member c.take-column.new.column) (λ k l. c.write-list.ensures k (omega arith)) c.if-found-q.false c.requires.sized.1.1.1.1 c.if-take-column.ensures in
+    c.take_column.new.steps c.take_column.new.pivots (at f.ops f.member c.write_list.new.column) (at f.ops f.member c.take_column.new.column) (λ k l. c.write_list.ensures k (omega arith)) c.if-found-q.false c.requires.sized.1.1.1.1 c.if-take_column.ensures in
     omega arith
 
-pub write-check-requires : goal.write-check-requires
-write-check-requires g c =
+pub write_check-requires : goal.write_check-requires
+write_check-requires g c =
     let f = g.F.Field in
     let laws = g.met.F.Field in
     let a = c.args in
     let few : suc a.counts.basics < a.n =
     Walking.check_room f.ops (field_of laws.laws laws.numbered c.requires.field) f.member a.n a.d a.rows (generator_in f.ops f.member a.row.now) c.requires.sized.0 c.requires.sized.1.0 c.requires.sized.1.1.0 c.requires.sized.1.1.1.0 c.requires.degree
     a.q a.counts.rank a.counts.basics a.steps.now a.pivots.now a.places.now a.found.now a.frame.now c.requires.walked
-    c.take-column.new.steps c.take-column.new.pivots (at f.ops f.member c.write-list.new.column) (at f.ops f.member c.take-column.new.column) (λ k l. c.write-list.ensures k (omega arith)) c.if-found-q.false c.requires.sized.1.1.1.1 c.if-take-column.ensures in
+    c.take_column.new.steps c.take_column.new.pivots (at f.ops f.member c.write_list.new.column) (at f.ops f.member c.take_column.new.column) (λ k l. c.write_list.ensures k (omega arith)) c.if-found-q.false c.requires.sized.1.1.1.1 c.if-take_column.ensures in
     let rank : a.counts.rank ≤ a.rows =
     Walking.rank_room f.ops (field_of laws.laws laws.numbered c.requires.field) f.member a.n a.d a.rows (generator_in f.ops f.member a.row.now) c.requires.sized.0 c.requires.sized.1.0 c.requires.sized.1.1.0 c.requires.sized.1.1.1.0 c.requires.degree
     a.q a.counts.rank a.counts.basics a.steps.now a.pivots.now a.places.now a.found.now a.frame.now c.requires.walked in
@@ -72,11 +72,11 @@ returns g c =
     let f = g.F.Field in
     let laws = g.met.F.Field in
     let a = c.args in
-    let check : CheckAt f.ops f.member a.n (suc a.counts.basics) a.q a.counts.rank (entry_at a.places.now) (λ t. f.ops.negative (at f.ops f.member c.take-column.new.column t)) a.frame.now c.write-check.new.frame =
-    rw add-one at c.write-check.ensures.written in
+    let check : CheckAt f.ops f.member a.n (suc a.counts.basics) a.q a.counts.rank (entry_at a.places.now) (λ t. f.ops.negative (at f.ops f.member c.take_column.new.column t)) a.frame.now c.write_check.new.frame =
+    rw add-one at c.write_check.ensures.written in
     let moved =
     Walking.walked_basic f.ops (field_of laws.laws laws.numbered c.requires.field) f.member a.n a.d a.rows (generator_in f.ops f.member a.row.now) c.requires.sized.0 c.requires.sized.1.0 c.requires.sized.1.1.0 c.requires.sized.1.1.1.0 c.requires.degree
     a.q a.counts.rank a.counts.basics a.steps.now a.pivots.now a.places.now a.found.now a.frame.now c.requires.walked
-    c.take-column.new.steps c.take-column.new.pivots (at f.ops f.member c.write-list.new.column) (at f.ops f.member c.take-column.new.column) (λ k l. c.write-list.ensures k (omega arith))
-    c.write-check.new.frame c.requires.kept.1.0 c.if-found-q.false c.requires.sized.1.1.1.1 c.if-take-column.ensures check in
-    record { walked = rw add-one moved; behind = c.write-check.ensures.behind }
+    c.take_column.new.steps c.take_column.new.pivots (at f.ops f.member c.write_list.new.column) (at f.ops f.member c.take_column.new.column) (λ k l. c.write_list.ensures k (omega arith))
+    c.write_check.new.frame c.requires.kept.1.0 c.if-found-q.false c.requires.sized.1.1.1.1 c.if-take_column.ensures check in
+    record { walked = rw add-one moved; behind = c.write_check.ensures.behind }

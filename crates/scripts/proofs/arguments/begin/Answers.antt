@@ -5,12 +5,12 @@ use Rattle.scripts.specs.Words.{words}
 use Rattle.scripts.proofs.Following.{numbers_head, begin_taken, taken_err}
 use Rattle.scripts.proofs.arguments.begin.Goals as goal
 
-pub returns-in-err-first : goal.returns-in-err-first
-returns-in-err-first c =
-    let p = err_from_is_err_and c.from-residual.result c.from-residual.ensures.1 in
+pub returns-in_err-first : goal.returns-in_err-first
+returns-in_err-first c =
+    let p = err_from_is_err_and c.from_residual.result c.from_residual.ensures.1 in
     let ws = words c.args.text.now in
-    taken_err key.Begin ws _ _ p.0 _ p.1 p.2 c.in-err-first.ensures
+    taken_err key.Begin ws _ _ p.0 _ p.1 p.2 c.in_err-first.ensures
     (λ d m. numbers_head ws m.0 [] m.1)
 
 pub returns : goal.returns
-returns c = begin_taken (words c.args.text.now) (words c.in-ok-first.first.rest.now) _ c.bare.result c.in-ok-first.ensures c.bare.ensures
+returns c = begin_taken (words c.args.text.now) (words c.in_ok-first.first.rest.now) _ c.bare.result c.in_ok-first.ensures c.bare.ensures

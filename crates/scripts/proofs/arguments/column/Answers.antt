@@ -5,20 +5,20 @@ use Rattle.scripts.specs.Words.{words}
 use Rattle.scripts.proofs.Following.{numbers_head, starts_tail, column_taken, taken_err}
 use Rattle.scripts.proofs.arguments.column.Goals as goal
 
-pub returns-in-err-i : goal.returns-in-err-i
-returns-in-err-i c =
-    let p = err_from_is_err_and c.from-residual.result c.from-residual.ensures.1 in
+pub returns-in_err-i : goal.returns-in_err-i
+returns-in_err-i c =
+    let p = err_from_is_err_and c.from_residual.result c.from_residual.ensures.1 in
     let ws = words c.args.text.now in
-    taken_err key.Column ws _ _ p.0 _ p.1 p.2 c.in-err-i.ensures
+    taken_err key.Column ws _ _ p.0 _ p.1 p.2 c.in_err-i.ensures
     (λ d m. numbers_head ws m.0 (m.1 ∷ []) m.2)
 
-pub returns-in-err-j : goal.returns-in-err-j
-returns-in-err-j c =
-    let p = err_from_is_err_and c.from-residual-in-err-j.result c.from-residual-in-err-j.ensures.1 in
+pub returns-in_err-j : goal.returns-in_err-j
+returns-in_err-j c =
+    let p = err_from_is_err_and c.from_residual-in_err-j.result c.from_residual-in_err-j.ensures.1 in
     let ws = words c.args.text.now in
-    taken_err key.Column ws _ _ p.0 _ p.1 p.2 c.in-err-j.ensures
-    (λ d m. numbers_head (words c.in-ok-i.i.rest.now) m.1 [] (starts_tail ws (words c.in-ok-i.i.rest.now) _ m.0 (m.1 ∷ []) c.in-ok-i.ensures m.2))
+    taken_err key.Column ws _ _ p.0 _ p.1 p.2 c.in_err-j.ensures
+    (λ d m. numbers_head (words c.in_ok-i.i.rest.now) m.1 [] (starts_tail ws (words c.in_ok-i.i.rest.now) _ m.0 (m.1 ∷ []) c.in_ok-i.ensures m.2))
 
 pub returns : goal.returns
 returns c =
-    column_taken (words c.args.text.now) (words c.in-ok-i.i.rest.now) (words c.in-ok-j.j.rest.now) _ _ c.bare.result c.in-ok-i.ensures c.in-ok-j.ensures c.bare.ensures
+    column_taken (words c.args.text.now) (words c.in_ok-i.i.rest.now) (words c.in_ok-j.j.rest.now) _ _ c.bare.result c.in_ok-i.ensures c.in_ok-j.ensures c.bare.ensures

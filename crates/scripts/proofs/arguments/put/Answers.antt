@@ -5,28 +5,28 @@ use Rattle.scripts.specs.Words.{words}
 use Rattle.scripts.proofs.Following.{numbers_head, starts_tail, put_taken, taken_err}
 use Rattle.scripts.proofs.arguments.put.Goals as goal
 
-pub returns-in-err-i : goal.returns-in-err-i
-returns-in-err-i c =
-    let p = err_from_is_err_and c.from-residual.result c.from-residual.ensures.1 in
+pub returns-in_err-i : goal.returns-in_err-i
+returns-in_err-i c =
+    let p = err_from_is_err_and c.from_residual.result c.from_residual.ensures.1 in
     let ws = words c.args.text.now in
-    taken_err key.Put ws _ _ p.0 _ p.1 p.2 c.in-err-i.ensures
+    taken_err key.Put ws _ _ p.0 _ p.1 p.2 c.in_err-i.ensures
     (λ d m. numbers_head ws m.0 (m.1 ∷ m.2 ∷ []) m.3)
 
-pub returns-in-err-power : goal.returns-in-err-power
-returns-in-err-power c =
-    let p = err_from_is_err_and c.from-residual-in-err-power.result c.from-residual-in-err-power.ensures.1 in
+pub returns-in_err-power : goal.returns-in_err-power
+returns-in_err-power c =
+    let p = err_from_is_err_and c.from_residual-in_err-power.result c.from_residual-in_err-power.ensures.1 in
     let ws = words c.args.text.now in
-    taken_err key.Put ws _ _ p.0 _ p.1 p.2 c.in-err-power.ensures
-    (λ d m. numbers_head (words c.in-ok-i.i.rest.now) m.1 (m.2 ∷ []) (starts_tail ws (words c.in-ok-i.i.rest.now) _ m.0 (m.1 ∷ m.2 ∷ []) c.in-ok-i.ensures m.3))
+    taken_err key.Put ws _ _ p.0 _ p.1 p.2 c.in_err-power.ensures
+    (λ d m. numbers_head (words c.in_ok-i.i.rest.now) m.1 (m.2 ∷ []) (starts_tail ws (words c.in_ok-i.i.rest.now) _ m.0 (m.1 ∷ m.2 ∷ []) c.in_ok-i.ensures m.3))
 
-pub returns-in-err-code : goal.returns-in-err-code
-returns-in-err-code c =
-    let p = err_from_is_err_and c.from-residual-in-err-code.result c.from-residual-in-err-code.ensures.1 in
+pub returns-in_err-code : goal.returns-in_err-code
+returns-in_err-code c =
+    let p = err_from_is_err_and c.from_residual-in_err-code.result c.from_residual-in_err-code.ensures.1 in
     let ws = words c.args.text.now in
-    taken_err key.Put ws _ _ p.0 _ p.1 p.2 c.in-err-code.ensures
-    (λ d m. numbers_head (words c.in-ok-power.power.rest.now) m.2 [] (starts_tail (words c.in-ok-i.i.rest.now) (words c.in-ok-power.power.rest.now) _ m.1 (m.2 ∷ []) c.in-ok-power.ensures (starts_tail ws (words c.in-ok-i.i.rest.now) _ m.0 (m.1 ∷ m.2 ∷ []) c.in-ok-i.ensures m.3)))
+    taken_err key.Put ws _ _ p.0 _ p.1 p.2 c.in_err-code.ensures
+    (λ d m. numbers_head (words c.in_ok-power.power.rest.now) m.2 [] (starts_tail (words c.in_ok-i.i.rest.now) (words c.in_ok-power.power.rest.now) _ m.1 (m.2 ∷ []) c.in_ok-power.ensures (starts_tail ws (words c.in_ok-i.i.rest.now) _ m.0 (m.1 ∷ m.2 ∷ []) c.in_ok-i.ensures m.3)))
 
 pub returns : goal.returns
 returns c =
-    put_taken (words c.args.text.now) (words c.in-ok-i.i.rest.now) (words c.in-ok-power.power.rest.now) (words c.in-ok-code.code.rest.now) _ _ _ c.bare.result c.in-ok-i.ensures c.in-ok-power.ensures c.in-ok-code.ensures
+    put_taken (words c.args.text.now) (words c.in_ok-i.i.rest.now) (words c.in_ok-power.power.rest.now) (words c.in_ok-code.code.rest.now) _ _ _ c.bare.result c.in_ok-i.ensures c.in_ok-power.ensures c.in_ok-code.ensures
     c.bare.ensures

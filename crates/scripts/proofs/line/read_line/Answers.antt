@@ -5,14 +5,14 @@ use Rattle.scripts.specs.Meaning.{Means, Fails}
 use Rattle.scripts.specs.Words.{words, uncommented}
 use Rattle.scripts.proofs.line.read_line.Goals as goal
 
-pub returns-in-default-of : goal.returns-in-default-of
-returns-in-default-of c = (_, _, ap words c.cut-at.ensures.first ∙ c.in-Some.ensures.words, c.in-default-of.ensures)
+pub returns-in_default-of : goal.returns-in_default-of
+returns-in_default-of c = (_, _, ap words c.cut_at.ensures.first ∙ c.in-Some.ensures.words, c.in_default-of.ensures)
 
 pub returns-in-NoFit : goal.returns-in-NoFit
 returns-in-NoFit c =
     let args = words c.in-Some.first.rest.now in
     let k = c.in-Some-of.keyword in (
       args,
-      ap words c.cut-at.ensures.first ∙ c.in-Some.ensures.words ∙ ap (λ w. w ∷ args) c.in-Some-of.ensures,
+      ap words c.cut_at.ensures.first ∙ c.in-Some.ensures.words ∙ ap (λ w. w ∷ args) c.in-Some-of.ensures,
       λ d m. subst (λ (e : Unread). Fails e ((c : Call) × Means k args c)) c.in-NoFit.is c.in-Err.ensures (d, m),
     )

@@ -6,21 +6,21 @@ use Rattle.std.specs.Char.{digit_value}
 use Rattle.scripts.proofs.Decimal.{digit_at, saturates}
 use Rattle.scripts.proofs.number.number.Goals as goal
 
-pub returns-in-err-d : goal.returns-in-err-d
-returns-in-err-d c = rw c.from-residual.ensures (λ w. c.in-err-d.ensures (digit_at _ _ (omega arith) w.1))
+pub returns-in_err-d : goal.returns-in_err-d
+returns-in_err-d c = rw c.from_residual.ensures (λ w. c.in_err-d.ensures (digit_at _ _ (omega arith) w.1))
 
 pub loop-b-preserved : goal.loop-b-preserved
 loop-b-preserved c =
     let word = c.args.word.now in
     let i = c.loop-b.b-index in
     let in-range : i < length word = omega arith in
-    let told = c.in-ok-d.ensures in
-    let step : digits_value 10 (take (i + 1) word) ≡ digits_value 10 (take i word) * 10 + c.in-ok-d.d = digits_value_more 10 word i in-range ∙ ap (λ d. digits_value 10 (take i word) * 10 + d) told.0 in
-    (digits_more 10 word i in-range c.loop-b.invariant.0 (omega (arith, told)), rw step (saturates _ _ _ _ _ c.loop-b.invariant.1 c.saturating-mul.ensures c.saturating-add-n.ensures))
+    let told = c.in_ok-d.ensures in
+    let step : digits_value 10 (take (i + 1) word) ≡ digits_value 10 (take i word) * 10 + c.in_ok-d.d = digits_value_more 10 word i in-range ∙ ap (λ d. digits_value 10 (take i word) * 10 + d) told.0 in
+    (digits_more 10 word i in-range c.loop-b.invariant.0 (omega (arith, told)), rw step (saturates _ _ _ _ _ c.loop-b.invariant.1 c.saturating_mul.ensures c.saturating_add-n.ensures))
 
 pub returns : goal.returns
 returns c =
     let all : take c.loop-b.b-index c.args.word.now ≡ c.args.word.now = take_all _ _ c.loop-b-test.false in
-    let some : 0 < length c.args.word.now = omega (arith, false-eqb _ 0 c.if-is-empty.ensures) in
+    let some : 0 < length c.args.word.now = omega (arith, false-eqb _ 0 c.if-is_empty.ensures) in
     let inv = simp all at c.loop-b.invariant in
     ((some, inv.0), inv.1)

@@ -24,13 +24,13 @@ moved {whole = whole} {left = left} {cs = cs} {qs = qs} e f r =
 pub loop-first-init : goal.loop-first-init
 loop-first-init c = moved c.new-done.ensures.items c.new_column.ensures.items (reading_none (words c.args.text.now))
 
-pub returns-then-is-empty : goal.returns-then-is-empty
-returns-then-is-empty c =
+pub returns-then-is_empty : goal.returns-then-is_empty
+returns-then-is_empty c =
     let w = c.in-Some.first.word.now in
     let rest = words c.in-Some.first.rest.now in
     let left = words c.loop-first.left.now in
     let is-bar : bar w ≡ true = sym (same_from_decides c.same.result (bar w) c.same.ensures (bytes_eq-Decides w (codes "|"))) ∙ c.if-same.true in
-    let none : length (vec_items c.loop-first.column) ≡ 0 = omega (arith, true-eqb _ 0 c.if-is-empty.ensures, c.loop-first.column.ok.0) in
+    let none : length (vec_items c.loop-first.column) ≡ 0 = omega (arith, true-eqb _ 0 c.if-is_empty.ensures, c.loop-first.column.ok.0) in
     λ m. empty_refuted (words c.args.text.now) left _ _ c.loop-first.invariant (pieces bar rest) (pieces_bar left w rest c.in-Some.ensures.words is-bar) none m.0 m.1
 
 pub loop-first-preserved-then-same : goal.loop-first-preserved-then-same
@@ -39,21 +39,21 @@ loop-first-preserved-then-same c =
     let rest = words c.in-Some.first.rest.now in
     let left = words c.loop-first.left.now in
     let is-bar : bar w ≡ true = sym (same_from_decides c.same.result (bar w) c.same.ensures (bytes_eq-Decides w (codes "|"))) ∙ c.if-same.true in
-    let some : 0 < length (vec_items c.loop-first.column) = omega (arith, false-eqb _ 0 c.if-is-empty.ensures, c.loop-first.column.ok.0) in
-    moved c.in-ok-push.ensures.items c.new-column-then-same.ensures.items
+    let some : 0 < length (vec_items c.loop-first.column) = omega (arith, false-eqb _ 0 c.if-is_empty.ensures, c.loop-first.column.ok.0) in
+    moved c.in_ok-push.ensures.items c.new-column-then-same.ensures.items
     (reading_next (words c.args.text.now) rest _ (reading_close (words c.args.text.now) left _ c.loop-first.column (pieces bar rest) c.loop-first.invariant (pieces_bar left w rest c.in-Some.ensures.words is-bar) some))
 
-pub returns-in-err-component : goal.returns-in-err-component
-returns-in-err-component c =
-    let p = err_from_is_err_and c.from-residual-in-err-component.result c.from-residual-in-err-component.ensures.1 in
+pub returns-in_err-component : goal.returns-in_err-component
+returns-in_err-component c =
+    let p = err_from_is_err_and c.from_residual-in_err-component.result c.from_residual-in_err-component.ensures.1 in
     let whole = words c.args.text.now in
     let w = c.in-Some.first.word.now in
     let rest = words c.in-Some.first.rest.now in
     let left = words c.loop-first.left.now in
     let no-bar : bar w ≡ false = sym (same_from_decides c.same.result (bar w) c.same.ensures (bytes_eq-Decides w (codes "|"))) ∙ c.if-same.false in
     rw (p.1, p.2)
-    (fails_refuted c.in-err-component.field-0.0 ((ns : List ℕ) × Polynomial w ns) ((cs : List Column_vec) × Columns whole cs)
-    (λ never m. word_refuted whole left _ _ c.loop-first.invariant w rest c.in-Some.ensures.words no-bar (λ ns h. never (ns, h)) m.0 m.1) c.in-err-component.ensures)
+    (fails_refuted c.in_err-component.field-0.0 ((ns : List ℕ) × Polynomial w ns) ((cs : List Column_vec) × Columns whole cs)
+    (λ never m. word_refuted whole left _ _ c.loop-first.invariant w rest c.in-Some.ensures.words no-bar (λ ns h. never (ns, h)) m.0 m.1) c.in_err-component.ensures)
 
 pub loop-first-preserved : goal.loop-first-preserved
 loop-first-preserved c =
@@ -61,17 +61,17 @@ loop-first-preserved c =
     let rest = words c.in-Some.first.rest.now in
     let left = words c.loop-first.left.now in
     let no-bar : bar w ≡ false = sym (same_from_decides c.same.result (bar w) c.same.ensures (bytes_eq-Decides w (codes "|"))) ∙ c.if-same.false in
-    moved refl c.in-ok-push-2.ensures.items
-    (reading_word (words c.args.text.now) left _ _ w rest c.in-ok-component.component c.loop-first.invariant c.in-Some.ensures.words no-bar c.in-ok-component.ensures)
+    moved refl c.in_ok-push-2.ensures.items
+    (reading_word (words c.args.text.now) left _ _ w rest c.in_ok-component.component c.loop-first.invariant c.in-Some.ensures.words no-bar c.in_ok-component.ensures)
 
-pub returns-then-is-empty-2 : goal.returns-then-is-empty-2
-returns-then-is-empty-2 c =
-    let none : length (vec_items c.loop-first.column) ≡ 0 = omega (arith, true-eqb _ 0 c.if-is-empty-2.ensures, c.loop-first.column.ok.0) in
-    λ m. empty_refuted (words c.args.text.now) (words c.loop-first.left.now) _ _ c.loop-first.invariant [] (ap (pieces bar) c.in-default.ensures.words) none m.0 m.1
+pub returns-then-is_empty-2 : goal.returns-then-is_empty-2
+returns-then-is_empty-2 c =
+    let none : length (vec_items c.loop-first.column) ≡ 0 = omega (arith, true-eqb _ 0 c.if-is_empty-2.ensures, c.loop-first.column.ok.0) in
+    λ m. empty_refuted (words c.args.text.now) (words c.loop-first.left.now) _ _ c.loop-first.invariant [] (ap (pieces bar) c.in_default.ensures.words) none m.0 m.1
 
 pub returns : goal.returns
 returns c =
-    let some : 0 < length (vec_items c.loop-first.column) = omega (arith, false-eqb _ 0 c.if-is-empty-2.ensures, c.loop-first.column.ok.0) in
+    let some : 0 < length (vec_items c.loop-first.column) = omega (arith, false-eqb _ 0 c.if-is_empty-2.ensures, c.loop-first.column.ok.0) in
     let whole = words c.args.text.now in
-    subst (λ (l : List Column_vec). Columns whole l) (sym c.in-ok-push-3.ensures.items)
-    (sofar_all Column (pieces bar whole) [] _ (reading_close whole (words c.loop-first.left.now) _ c.loop-first.column [] c.loop-first.invariant (ap (pieces bar) c.in-default.ensures.words) some) refl)
+    subst (λ (l : List Column_vec). Columns whole l) (sym c.in_ok-push-3.ensures.items)
+    (sofar_all Column (pieces bar whole) [] _ (reading_close whole (words c.loop-first.left.now) _ c.loop-first.column [] c.loop-first.invariant (ap (pieces bar) c.in_default.ensures.words) some) refl)

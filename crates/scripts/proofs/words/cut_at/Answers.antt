@@ -14,12 +14,12 @@ returns c =
     let text = c.args.text.now in
     let n = c.before-n.result in
     let inside : n < length text = omega (arith, c.before-n.ensures.within) in
-    let rest : c.split-at-2.result.1.now ≡ drop (suc n) text =
-    c.split-at-2.ensures.back ∙ ap (λ l. drop 1 l) c.split-at.ensures.back ∙ drop-drop 1 n text ∙ ap (λ k. drop k text) (add-one n) in
+    let rest : c.split_at-2.result.1.now ≡ drop (suc n) text =
+    c.split_at-2.ensures.back ∙ ap (λ l. drop 1 l) c.split_at.ensures.back ∙ drop-drop 1 n text ∙ ap (λ k. drop k text) (add-one n) in
     let cut = pieces_cut c.args.mark n text inside c.before-n.ensures.none (c.before-n.ensures.here inside) in
     record {
-      pieces = rw (c.split-at.ensures.front, rest) cut;
-      first = ap first_of cut ∙ sym c.split-at.ensures.front;
-      within = omega (arith, c.split-at.ensures.front-len);
-      shorter = omega (arith, c.split-at.ensures.back_len, c.split-at-2.ensures.back_len);
+      pieces = rw (c.split_at.ensures.front, rest) cut;
+      first = ap first_of cut ∙ sym c.split_at.ensures.front;
+      within = omega (arith, c.split_at.ensures.front-len);
+      shorter = omega (arith, c.split_at.ensures.back_len, c.split_at-2.ensures.back_len);
     }

@@ -5,20 +5,20 @@ use Rattle.scripts.proofs.Pieces.{words_more, words_skip}
 use Rattle.scripts.proofs.words.first_word.Goals as goal
 use Rattle.scripts.proofs.words.first_word.Goals.{in-Some, in-None}
 
-pub returns-then-not-is-empty : goal.returns-then-not-is-empty
-returns-then-not-is-empty c =
-    let some : 0 < length c.cut-at-cut.result.piece.now = omega (arith, false-eqb _ 0 c.if-not-is-empty.ensures) in
+pub returns-then-not-is_empty : goal.returns-then-not-is_empty
+returns-then-not-is_empty c =
+    let some : 0 < length c.cut_at-cut.result.piece.now = omega (arith, false-eqb _ 0 c.if-not-is_empty.ensures) in
     elim c.match-cut.branch [
       | in-Some w ↦
           let at : c.match-cut.rest.now ≡ w.in-Some.rest.now = ap (λ x. x.now) w.rest-is in
           record {
-            words = sym c.loop-rest.invariant.0 ∙ words_more c.loop-rest.left.now _ _ (MatchOption-at_some _ _ _ w.in-Some.is c.cut-at-cut.ensures.pieces) some ∙ ap (λ l. c.cut-at-cut.result.piece.now ∷ words l) (sym at);
-            shorter = omega (arith, ap length at, MatchOption-at_some _ _ _ w.in-Some.is c.cut-at-cut.ensures.shorter);
+            words = sym c.loop-rest.invariant.0 ∙ words_more c.loop-rest.left.now _ _ (MatchOption-at_some _ _ _ w.in-Some.is c.cut_at-cut.ensures.pieces) some ∙ ap (λ l. c.cut_at-cut.result.piece.now ∷ words l) (sym at);
+            shorter = omega (arith, ap length at, MatchOption-at_some _ _ _ w.in-Some.is c.cut_at-cut.ensures.shorter);
           }
       | in-None w ↦
           let at : c.match-cut.rest.now ≡ [] = ap (λ x. x.now) w.rest-is in
           record {
-            words = sym c.loop-rest.invariant.0 ∙ words_more c.loop-rest.left.now _ _ (MatchOption-at_none _ _ w.in-None.is c.cut-at-cut.ensures.pieces) some ∙ ap (λ l. c.cut-at-cut.result.piece.now ∷ words l) (sym at);
-            shorter = omega (arith, ap length at, c.cut-at-cut.ensures.within);
+            words = sym c.loop-rest.invariant.0 ∙ words_more c.loop-rest.left.now _ _ (MatchOption-at_none _ _ w.in-None.is c.cut_at-cut.ensures.pieces) some ∙ ap (λ l. c.cut_at-cut.result.piece.now ∷ words l) (sym at);
+            shorter = omega (arith, ap length at, c.cut_at-cut.ensures.within);
           }
     ]

@@ -11,13 +11,13 @@ loop-k-preserved g c =
     let t = c.args.table.now in
     let to = c.args.base + c.args.power in
     let sums : ℕ → f.Member = λ j. f.ops.sum (at f.ops f.member t (to + j)) (f.ops.product (f.member c.args.factor) (at f.ops f.member t (c.args.from + j))) in
-    filled_more f.ops f.member sums to c.loop-k.k t c.loop-k.table c.add-product.new.table
+    filled_more f.ops f.member sums to c.loop-k.k t c.loop-k.table c.add_product.new.table
     c.loop-k.invariant
-    (c.add-product.ensures.here
+    (c.add_product.ensures.here
     ∙ ap₂ (λ s u. f.ops.sum s (f.ops.product (f.member c.args.factor) u))
     (filled_next f.ops f.member sums to c.loop-k.k t c.loop-k.table c.loop-k.invariant)
     (filled_apart f.ops f.member sums to c.loop-k.k c.args.width c.args.from c.args.width c.loop-k.k t c.loop-k.table c.loop-k.invariant (omega arith) c.requires.apart (omega arith)))
-    c.add-product.ensures.others
+    c.add_product.ensures.others
 
 pub returns : goal.returns
 returns g c =

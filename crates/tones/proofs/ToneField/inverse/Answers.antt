@@ -8,12 +8,12 @@ use Rattle.tones.proofs.ToneField.inverse.Goals as goal
 pub returns-in-T0 : goal.returns-in-T0
 returns-in-T0 c = record { value = c.in-T0.is; invertible = tone_invertible }
 
-pub returns-in-default : goal.returns-in-default
-returns-in-default c =
+pub returns-in_default : goal.returns-in_default
+returns-in_default c =
     record {
       value =
           ap (λ r. tone_of (number_of c.args.self * number_of r))
-          (c.residue.ensures.value ∙ ap tone_of (c.inverse-number.ensures ∙ ap (λ k. get_or inverses k 0) c.number.ensures.value))
-          ∙ inverse_tone c.args.self c.in-default.not-T0;
+          (c.residue.ensures.value ∙ ap tone_of (c.inverse_number.ensures ∙ ap (λ k. get_or inverses k 0) c.number.ensures.value))
+          ∙ inverse_tone c.args.self c.in_default.not-T0;
       invertible = tone_invertible;
     }

@@ -6,7 +6,7 @@ use Rattle.scripts.specs.Spelling.{named}
 use Rattle.scripts.proofs.call.FieldName.of.Goals as goal
 
 pub loop-name-preserved : goal.loop-name-preserved
-loop-name-preserved c = below_more _ _ c.loop-name.invariant (λ e. not_from_Decides _ c.same.ensures c.if-same.false (e ∙ sym (c.as-bytes.ensures.value ∙ c.word.ensures)))
+loop-name-preserved c = below_more _ _ c.loop-name.invariant (λ e. not_from_Decides _ c.same.ensures c.if-same.false (e ∙ sym (c.as_bytes.ensures.value ∙ c.word.ensures)))
 
 pub returns : goal.returns
 returns c =

@@ -6,7 +6,7 @@ use Rattle.scripts.proofs.call.Keyword.of.Goals as goal
 
 pub loop-keyword-preserved : goal.loop-keyword-preserved
 loop-keyword-preserved c =
-    below_more _ _ c.loop-keyword.invariant (λ e. not_from_Decides _ c.same.ensures c.if-same.false (e ∙ sym (c.as-bytes.ensures.value ∙ c.word.ensures)))
+    below_more _ _ c.loop-keyword.invariant (λ e. not_from_Decides _ c.same.ensures c.if-same.false (e ∙ sym (c.as_bytes.ensures.value ∙ c.word.ensures)))
 
 pub returns : goal.returns
 returns c =
