@@ -1,4 +1,6 @@
 // Mathematics over any ring or field of members: no data, only definitions, lemmas, and functions whose contracts are the theorems.
+#![tactic(auto)]
+
 ghost use Rattle.algebra.specs.Rings.{RingOps, IsField};
 ghost use Rattle.algebra.specs.Theorems.{SeriesRing, PolynomialDegrees, DivisionWithRemainder, GreatestCommonDivisor, ExchangeOverField, RowDividedByGcd, OptimalFrames, TestByDegrees, CleanLink};
 

@@ -1,5 +1,7 @@
 // Multiplies a million times in each field and writes the last code; finds the greatest common divisor of a row a thousand times and writes
 // the degrees; with the word `time`, also how long each took.
+#![tactic(auto)]
+
 mod designs;
 mod rows;
 

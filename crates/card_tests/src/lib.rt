@@ -1,4 +1,6 @@
 // Tests of reading cards: each refusal on its own with its layer and place, and cards that pass.
+#![tactic(auto)]
+
 #[cfg(test)]
 mod tests {
     use cards::fault::CardFault;

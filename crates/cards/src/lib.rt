@@ -1,4 +1,6 @@
 // Cards: designs kept as bytes.
+#![tactic(auto)]
+
 mod bytes;
 mod chains;
 pub mod fault;

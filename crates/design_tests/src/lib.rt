@@ -1,4 +1,6 @@
 // Tests of the calls on designs and cards, at their limits.
+#![tactic(auto)]
+
 #[cfg(test)]
 mod tests {
     use cards::write::write_card;

@@ -1,4 +1,6 @@
 // Gauss-Jordan elimination, one column at a time, in lent tables.
+#![tactic(auto)]
+
 ghost use Rattle.std.specs.Prelude.{◌≡◌, ℕ, ◌+◌, ◌*◌, ◌<◌, ◌≤◌, length};
 ghost use Rattle.tables.specs.Places.{at};
 ghost use Rattle.elimination.specs.Echelon.{Echelon, Relations, TakesNext, places_after};

@@ -1,4 +1,6 @@
 // Tests of framing: worked designs through the call, its refusals, and what it leaves in the tables.
+#![tactic(auto)]
+
 #[cfg(test)]
 mod tests {
     use design::draft::Draft;

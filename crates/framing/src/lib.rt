@@ -1,4 +1,6 @@
 // The frame of a row of generators, whole, in lent tables.
+#![tactic(auto)]
+
 ghost use Rattle.std.specs.Prelude.{◌≡◌, ◌≤◌, length, MatchOption};
 ghost use Rattle.algebra.specs.Divisors.{AllZero};
 ghost use Rattle.frames.specs.Rows.{generator_in};

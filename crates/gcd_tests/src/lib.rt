@@ -1,4 +1,6 @@
 // Tests of the greatest common divisor of a row: rows with known factors, compared with trial division by every small monic polynomial.
+#![tactic(auto)]
+
 #[cfg(test)]
 mod plain;
 #[cfg(test)]

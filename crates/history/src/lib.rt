@@ -1,3 +1,5 @@
 // Runs: any list of calls on one design, performed in order.
+#![tactic(auto)]
+
 pub mod perform;
 pub mod request;

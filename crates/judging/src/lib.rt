@@ -1,4 +1,6 @@
 // Judging a frame that was made elsewhere, exactly, and taking it.
+#![tactic(auto)]
+
 ghost use Rattle.std.specs.Prelude.{◌≡◌, ◌-◌, ◌≤◌, length, MatchResult};
 ghost use Rattle.frames.specs.Rows.{generator_in};
 ghost use Rattle.framing.specs.Framing.{column_in};

@@ -1,4 +1,6 @@
 // Tests of the link: limits, refusals, and messages that are sent, hit and brought home.
+#![tactic(auto)]
+
 #[cfg(test)]
 mod tests {
     use design::draft::Draft;

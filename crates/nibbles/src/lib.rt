@@ -1,4 +1,6 @@
 // Nibbles: the field of 16 members, polynomials of degree below 4 over the bits, reduced by x^4 + x + 1.
+#![tactic(auto)]
+
 ghost use Rattle.std.specs.Prelude.{◌≡◌, ◌<◌, get_or};
 ghost use Rattle.nibbles.specs.Nibbles.{code_of, nibble_of, nibble_ops};
 ghost use Rattle.nibbles.specs.Tables.{entry, inverses};

@@ -1,4 +1,6 @@
 // Tests of offering a frame: each refusal, their order, which frames are taken, and what the call leaves in the tables.
+#![tactic(auto)]
+
 #[cfg(test)]
 mod tests {
     use design::draft::Draft;

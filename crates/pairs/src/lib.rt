@@ -1,4 +1,6 @@
 // Pairs u + v·z over any field with a quadratic z·z + t·z + c that has no root.
+#![tactic(auto)]
+
 ghost use Rattle.std.specs.Prelude.{◌≡◌, ℕ, ◌+◌, ◌*◌, ◌<◌};
 ghost use Rattle.pairs.specs.Pairs.{PairMember, pair, norm, pair_ops, pair_number};
 ghost use Rattle.pairs.specs.Laws.{pair_field};

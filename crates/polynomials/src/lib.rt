@@ -1,4 +1,6 @@
 // Polynomials in the parts of a table.
+#![tactic(auto)]
+
 ghost use Rattle.std.specs.Prelude.{◌≡◌, ℕ, ◌+◌, ◌-◌, ◌<◌, ◌≤◌, length};
 ghost use Rattle.algebra.specs.Divisors.{Divides};
 ghost use Rattle.algebra.specs.Series.{series, shift, scale, Below, Degree};

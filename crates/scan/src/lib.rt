@@ -1,4 +1,6 @@
 // The columns of the degree-optimal frame of a divided row.
+#![tactic(auto)]
+
 ghost use Rattle.std.specs.Prelude.{◌≡◌, ℕ, suc, ◌+◌, ◌-◌, ◌*◌, ◌<◌, ◌≤◌, length};
 ghost use Rattle.algebra.specs.Divisors.{Combination, VectorDegree};
 ghost use Rattle.algebra.specs.Frames.{FrameColumns};

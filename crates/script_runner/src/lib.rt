@@ -1,4 +1,6 @@
 // Runs a script: the calls of its lines, one after the other, on one design.
+#![tactic(auto)]
+
 mod calls;
 mod desk;
 mod elements;

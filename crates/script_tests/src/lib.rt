@@ -1,4 +1,6 @@
 // Tests of reading lines: lines that are no call, and what counts as one.
+#![tactic(auto)]
+
 #[cfg(test)]
 mod tests {
     use scripts::call::{Call, FieldName, Keyword};

@@ -1,4 +1,6 @@
 // Scripts: which call a line of text means.
+#![tactic(auto)]
+
 mod arguments;
 pub mod call;
 pub mod line;

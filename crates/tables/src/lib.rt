@@ -1,4 +1,6 @@
 // Lent tables of elements, read by the members that they mean.
+#![tactic(auto)]
+
 ghost use Rattle.tables.specs.Places.{Cleared};
 
 use crate::cells::put;

@@ -1,4 +1,6 @@
 // The walk-through: one design over the tones, from its codes to its card.
+#![tactic(auto)]
+
 mod card;
 mod polynomial;
 

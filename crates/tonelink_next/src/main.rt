@@ -1,4 +1,6 @@
 // The program: a walk-through of every call, or a script.
+#![tactic(auto)]
+
 mod answer;
 mod card;
 mod polynomial;

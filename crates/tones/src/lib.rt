@@ -1,4 +1,6 @@
 // Tones: residues modulo 31, as an enumeration of the 31 members.
+#![tactic(auto)]
+
 ghost use Rattle.std.specs.Prelude.{◌≡◌, ◌<◌, ◌%◌, get_or};
 ghost use Rattle.tones.specs.Tones.{number_of, tone_of, tone_ops, inverses};
 ghost use Rattle.tones.specs.declared.Tone.{Tone};

@@ -1,4 +1,6 @@
 // The fields that are built as pairs, and products by codes in any field.
+#![tactic(auto)]
+
 ghost use Rattle.std.specs.Prelude.{◌≡◌, ◌≤◌, ◌⊎◌, MatchResult};
 ghost use Rattle.towers.specs.Worked.{IsProduct, AllHold, worked, stated};
 

@@ -1,5 +1,7 @@
 // Support of the trials: a second solver, cards and blocks by another route, and what the trials draw. It knows the fields and nothing
 // of the library above them.
+#![tactic(auto)]
+
 pub mod blocks;
 pub mod bounds;
 pub mod cards;

@@ -1,4 +1,6 @@
 // The trials: what only a run can show. Prints what was tried, and last how much of it differed.
+#![tactic(auto)]
+
 mod blocks;
 mod framing;
 mod keeping;
