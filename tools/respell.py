@@ -43,7 +43,7 @@ def declared_in(text, is_answers):
         m = re.match(r"^( *)((?:abbrev |unfoldable |pub |data |record )*)(.+?) : ", line)
         if not m or line.lstrip().startswith("--"):
             continue
-        if is_answers and re.search(r" : goal\.", line):
+        if is_answers and (" : goal." in line or re.search(r"\b(invariant|decreases)-", line)):
             continue
         names = re.split(r" [({]", m[3])[0].split()
         if any(n in WORDS_OF_ANTT or not re.fullmatch(WORD, n) for n in names):

@@ -13,7 +13,7 @@ pub scan-requires : goal.scan-requires
 scan-requires g c =
     let f = g.F.Field in
     let parts = c.split_at_mut-tables in
-    let row : quotient_in f.ops f.member c.args.work.now ≡ generator_in f.ops f.member parts.result.1.now = row_part f.ops f.member c.args.work.now parts.result.0.now parts.result.1.now parts.ensures.value parts.ensures.front-len in
+    let row : quotient_in f.ops f.member c.args.work.now ≡ generator_in f.ops f.member parts.result.1.now = row_part f.ops f.member c.args.work.now parts.result.0.now parts.result.1.now parts.ensures.value parts.ensures.front_len in
     record {
       sized = c.requires.sized;
       room = (omega arith, (omega arith, (simp length-take (omega arith), omega arith)));
@@ -27,7 +27,7 @@ pub returns : goal.returns
 returns g c =
     let f = g.F.Field in
     let parts = c.split_at_mut-tables in
-    let row : quotient_in f.ops f.member c.args.work.now ≡ generator_in f.ops f.member parts.result.1.now = row_part f.ops f.member c.args.work.now parts.result.0.now parts.result.1.now parts.ensures.value parts.ensures.front-len in
+    let row : quotient_in f.ops f.member c.args.work.now ≡ generator_in f.ops f.member parts.result.1.now = row_part f.ops f.member c.args.work.now parts.result.0.now parts.result.1.now parts.ensures.value parts.ensures.front_len in
     record {
       columns = subst (λ (r : ℕ → ℕ → f.Member). (p : ℕ → ℕ) × FrameColumns f.ops (c.args.n - 1) c.args.d r p (column_in f.ops f.member c.scan.new.frame)) (sym row) c.scan.ensures.columns;
       divisor = part_same f.ops f.member c.copy_from.new.table c.scan.new.frame 1088 17 (gcd_in f.ops f.member c.args.work.now) c.scan.ensures.behind c.copy_from.ensures.copy;

@@ -4,8 +4,8 @@ use Rattle.cards.specs.Overwriting.{over}
 use Rattle.cards.proofs.Generators.{generators_from}
 use Rattle.cards.proofs.chains.write_chains.Given as goal
 
-abbrev pub invariant_loop_i : goal.invariant_loop_i
-invariant_loop_i g l =
+abbrev pub invariant-loop-i : goal.invariant-loop-i
+invariant-loop-i g l =
     let f = g.F.Field in
     (1 ≤ l.next)
     × (l.next ≤ 1 + 17 * l.i)

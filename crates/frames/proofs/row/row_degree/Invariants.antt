@@ -2,5 +2,5 @@ use Rattle.std.proofs.Common.{◌≤◌}
 use Rattle.frames.specs.Rows.{row_in, Highest}
 use Rattle.frames.proofs.row.row_degree.Given as goal
 
-abbrev pub invariant_loop_i : goal.invariant_loop_i
-invariant_loop_i g l = let f = g.F.Field in Highest f.ops l.i (row_in f.ops f.member l.table l.base) l.d × (l.d ≤ 16)
+abbrev pub invariant-loop-i : goal.invariant-loop-i
+invariant-loop-i g l = let f = g.F.Field in Highest f.ops l.i (row_in f.ops f.member l.table l.base) l.d × (l.d ≤ 16)

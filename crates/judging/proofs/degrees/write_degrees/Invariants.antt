@@ -4,8 +4,8 @@ use Rattle.frames.specs.Rows.{Highest}
 use Rattle.framing.specs.Framing.{column_in}
 use Rattle.judging.proofs.degrees.write_degrees.Given as goal
 
-abbrev pub invariant_loop_j : goal.invariant_loop_j
-invariant_loop_j g l =
+abbrev pub invariant-loop-j : goal.invariant-loop-j
+invariant-loop-j g l =
     let f = g.F.Field in
     ((j : ℕ) → j < l.j → Highest f.ops l.n (column_in f.ops f.member l.offered j) (entry_at l.degrees j))
     × ((j : ℕ) → j < l.j → entry_at l.degrees j ≤ 16)

@@ -5,8 +5,8 @@ use Rattle.framing.specs.Framing.{column_in}
 use Rattle.tables.specs.Places.{Kept}
 use Rattle.judging.proofs.products.lowest_no_syzygy.Given as goal
 
-abbrev pub invariant_loop_j : goal.invariant_loop_j
-invariant_loop_j g l =
+abbrev pub invariant-loop-j : goal.invariant-loop-j
+invariant-loop-j g l =
     let f = g.F.Field in
     ((j : ℕ) → 1 ≤ j → j < l.j → Syzygy f.ops l.n (generator_in f.ops f.member l.generators) (column_in f.ops f.member l.offered j))
     × Kept f.ops f.member 0 67 l.initial.work l.work

@@ -5,8 +5,8 @@ use Rattle.framing.specs.Framing.{column_in}
 use Rattle.tables.specs.Places.{Kept, poly_at}
 use Rattle.judging.proofs.products.write_product.Given as goal
 
-abbrev pub invariant_loop_i : goal.invariant_loop_i
-invariant_loop_i g l =
+abbrev pub invariant-loop-i : goal.invariant-loop-i
+invariant-loop-i g l =
     let f = g.F.Field in
     (poly_at f.ops f.member l.work 34 33 ≡ dot (series f.ops) l.i (generator_in f.ops f.member l.generators) (column_in f.ops f.member l.offered l.j))
     × Kept f.ops f.member 0 67 l.initial.work l.work

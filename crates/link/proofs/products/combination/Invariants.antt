@@ -4,7 +4,7 @@ use Rattle.link.specs.Blocks.{stream}
 use Rattle.link.proofs.Terms.{streams}
 use Rattle.link.proofs.products.combination.Given as goal
 
-abbrev pub invariant_loop_i : goal.invariant_loop_i
-invariant_loop_i g l =
+abbrev pub invariant-loop-i : goal.invariant-loop-i
+invariant-loop-i g l =
     let f = g.F.Field in
     f.member l.sum ≡ streams f.ops (stream f.ops f.member l.n l.block) (λ i. poly_at f.ops f.member l.table (l.base + 17 * i) 17) l.t l.i

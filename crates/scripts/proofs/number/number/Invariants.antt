@@ -2,5 +2,5 @@ use Rattle.std.proofs.Common.{◌≡◌, ◌-◌, ◌^◌, min, take}
 use Rattle.std.specs.Str.Parse.{AllDigits, digits_value}
 use Rattle.scripts.proofs.number.number.Given as goal
 
-abbrev pub invariant_loop_b : goal.invariant_loop_b
-invariant_loop_b l = AllDigits 10 (take l.b-index l.word) × (l.n ≡ min (digits_value 10 (take l.b-index l.word)) (2 ^ 32 - 1))
+abbrev pub invariant-loop-b : goal.invariant-loop-b
+invariant-loop-b l = AllDigits 10 (take l.b-index l.word) × (l.n ≡ min (digits_value 10 (take l.b-index l.word)) (2 ^ 32 - 1))

@@ -20,6 +20,6 @@ returns c =
     record {
       pieces = rw (c.split_at.ensures.front, rest) cut;
       first = ap first_of cut ∙ sym c.split_at.ensures.front;
-      within = omega (arith, c.split_at.ensures.front-len);
+      within = omega (arith, c.split_at.ensures.front_len);
       shorter = omega (arith, c.split_at.ensures.back_len, c.split_at-2.ensures.back_len);
     }

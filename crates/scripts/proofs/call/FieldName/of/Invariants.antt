@@ -3,5 +3,5 @@ use Rattle.scripts.specs.declared.call.FieldName.TheVariants.{Tones, Nibbles, By
 use Rattle.scripts.specs.Spelling.{named}
 use Rattle.scripts.proofs.call.FieldName.of.Given as goal
 
-abbrev pub invariant_loop_name : goal.invariant_loop_name
-invariant_loop_name l = (k : ℕ) → k < l.name-index → l.word ≡ named (get_or (Tones ∷ Nibbles ∷ Bytes ∷ TonePairs ∷ []) k Tones) → ⊥
+abbrev pub invariant-loop-name : goal.invariant-loop-name
+invariant-loop-name l = (k : ℕ) → k < l.name-index → l.word ≡ named (get_or (Tones ∷ Nibbles ∷ Bytes ∷ TonePairs ∷ []) k Tones) → ⊥
