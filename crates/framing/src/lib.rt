@@ -13,7 +13,7 @@ use frames::row::divide_by_gcd;
 use scan::write_frame;
 use tables::clear;
 
-mod packing;
+pub mod packing;
 
 // What is known of a frame: the degree of the divided generators, that of the divisor, and those of the columns, packed.
 #[derive(Clone, Copy)]
