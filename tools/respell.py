@@ -94,7 +94,8 @@ def table_of(top, own):
 
 
 def respelled(text, table):
-    return re.sub(r"(?<![^\s(){}\[\].;,@\"])(" + WORD + r")", lambda m: table.get(m[1], m[1]), text)
+    """A text with the names turned, but in strings."""
+    return re.sub(r'("[^"\n]*")|(?<![^\s(){}\[\].;,@"])(' + WORD + r")", lambda m: m[1] or table.get(m[2], m[2]), text)
 
 
 GHOST = re.compile(r"(?m)^\s*ghost use [^;]*;|(?:requires|ensures|invariant|decreases)\*?(?: \w+)? \{|ghost \w+(?::| =) \{|^\s*//.*$")

@@ -9,7 +9,7 @@ abbrev pub named : FieldName → List ℕ
 named Tones = codes "tones"
 named Nibbles = codes "nibbles"
 named Bytes = codes "bytes"
-named TonePairs = codes "tone_pairs"
+named TonePairs = codes "tone-pairs"
 
 abbrev pub spelled : Keyword → List ℕ
 spelled Field = codes "field"

@@ -29,9 +29,9 @@ loop-power-preserved g c =
             left,
             omega (arith, w.next-is, c.loop-power.invariant),
             omega (arith, w.left-is, w.next-is, n, c.loop-power.invariant),
-            omega (arith, w.left-is, w.at_is, n, c.if-code-ne0.auto.buffer, c.loop-power.invariant),
+            omega (arith, w.left-is, w.at-is, n, c.if-code-ne0.auto.buffer, c.loop-power.invariant),
             records_step c.loop-power.at c.loop-power.next c.loop-power.power c.code-code.result w.link.result _ _ c.loop-power.buffer _ _ _
-                w.at_is w.next-is (w.buffer-is ∙ w.write_record.ensures) e (w.link.ensures _ (omega (arith, w.left-is, left)) ∙ ap (λ k. link k (terms_from (λ x. f.number (f.member x)) (c.loop-power.power + 1) c.args.row.now)) (sym w.next-is))
+                w.at-is w.next-is (w.buffer-is ∙ w.write_record.ensures) e (w.link.ensures _ (omega (arith, w.left-is, left)) ∙ ap (λ k. link k (terms_from (λ x. f.number (f.member x)) (c.loop-power.power + 1) c.args.row.now)) (sym w.next-is))
                 ∙ c.loop-power.invariant.4,
           )
       | else-code-ne0 w ↦
@@ -40,8 +40,8 @@ loop-power-preserved g c =
             omega (arith, w.left-is, n, c.loop-power.invariant),
             omega (arith, w.next-is, c.loop-power.invariant),
             omega (arith, w.left-is, w.next-is, c.loop-power.invariant),
-            omega (arith, w.left-is, w.at_is, c.if-code-ne0.auto.buffer, c.loop-power.invariant),
-            cc (w.at_is, w.next-is, w.buffer-is, e, c.loop-power.invariant.4),
+            omega (arith, w.left-is, w.at-is, c.if-code-ne0.auto.buffer, c.loop-power.invariant),
+            cc (w.at-is, w.next-is, w.buffer-is, e, c.loop-power.invariant.4),
           )
     ]
 

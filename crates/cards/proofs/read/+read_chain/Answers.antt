@@ -33,9 +33,3 @@ returns g t c =
     let term = c.in_ok-term.ensures in
     enters_here f.order card c.args.floor c.args.place _ starts one most f.ops f.member f.number c.args.i _ c.args.table.now c.read_chain.new.table _
     (search rules) term.answer term.value.0 term.value.1 c.in_ok-read_chain.ensures
-
-pub offset_bounds-table-i : goal.offset_bounds-table-i
-offset_bounds-table-i g t c =
-    let low = c.in_ok-term.ensures.low in
-    let h : 17 * c.args.i + c.in_ok-term.term.power < length c.read_chain.new.table = omega (arith, low, c.requires.room, c.read_chain.auto.table) in
-    search rules

@@ -16,7 +16,7 @@ pub loop-k-init : goal.loop-k-init
 loop-k-init g c =
     let f = g.F.Field in (
       omega arith,
-      c.zero_sum.ensures
+      c.zero-sum.ensures
           ∙ sym (terms_none f.ops g.met.F.Field.laws.ring (stream f.ops f.member c.args.n c.args.block.now c.args.i) (poly_at f.ops f.member c.args.table.now c.args.base 17) c.args.t c.saturating_sub-low.result (λ j h. stream_past f.ops f.member c.args.n c.args.times c.args.block.now c.args.i (c.args.t - j) c.requires.block.0 (omega arith))),
     )
 
