@@ -11,7 +11,7 @@ use Rattle.runs.proofs.perform.perform.Goals as goal
 pub loop-request-init : goal.loop-request-init
 loop-request-init g c =
     let made = c.in-Ok.ensures in
-    let counted = c.into-iter-request-iterator.ensures.into-iter-gives.1 in
+    let counted = c.into_iter-request-iterator.ensures.into_iter_gives.1 in
     let long = c.len.ensures in
     (let none = made.len in let room = made.capacity in omega arith, leads_start _ _ _ (vec_items c.in-Ok.answers) made.items)
 
@@ -35,7 +35,7 @@ returns g c =
     let exit = held c.loop-request.design c.loop-request.generators c.loop-request.frame in
     let step = Step f.ops f.member (λ x. f.number (f.member x)) f.order in
     let run =
-    subst (λ (qs : List (Request g.row.F.Denot)). Performs step qs entry (vec_items c.loop-request.answers) exit) c.into-iter-request-iterator.ensures.into-iter-gives.0
+    subst (λ (qs : List (Request g.row.F.Denot)). Performs step qs entry (vec_items c.loop-request.answers) exit) c.into_iter-request-iterator.ensures.into_iter_gives.0
     (leads_end step _ entry _ _ exit c.loop-request.invariant.1 left) in
     record {
       run = run;

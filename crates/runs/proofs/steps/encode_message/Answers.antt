@@ -6,5 +6,5 @@ use Rattle.runs.proofs.steps.encode_message.Goals as goal
 pub returns : goal.returns
 returns g c =
     let call = c.encode-answer.ensures in
-    λ f. encodes_lent _ _ _ _ _ _ _ _ _ _ _ _ _ _ c.deref.ensures.value c.deref-mut.ensures.value (with_items_is c.args.block c.encode-answer.new.block (omega arith))
+    λ f. encodes_lent _ _ _ _ _ _ _ _ _ _ _ _ _ _ c.deref.ensures.value c.deref_mut.ensures.value (with_items_is c.args.block c.encode-answer.new.block (omega arith))
     (record { answer = call.answer; written = call.written; encodes = call.encodes })

@@ -5,9 +5,9 @@ use Rattle.runs.proofs.steps.frame_draft.Goals as goal
 
 pub returns-in-Ok : goal.returns-in-Ok
 returns-in-Ok g c =
-    frames_lent _ _ _ _ _ _ _ _ _ _ _ _ _ c.deref-mut.ensures.value (with_items_is c.args.work c.frame.new.work (omega arith)) c.in-Ok.ensures.granted
+    frames_lent _ _ _ _ _ _ _ _ _ _ _ _ _ c.deref_mut.ensures.value (with_items_is c.args.work c.frame.new.work (omega arith)) c.in-Ok.ensures.granted
 
 pub returns-in-Err : goal.returns-in-Err
 returns-in-Err g c =
     let refused = c.in-Err.ensures.refused in
-    refused_lent _ _ _ _ _ _ _ _ _ _ _ _ _ _ c.deref-mut.ensures.value (with_items_is c.args.work c.frame.new.work (omega arith)) refused.1 refused.2 refused.0
+    refused_lent _ _ _ _ _ _ _ _ _ _ _ _ _ _ c.deref_mut.ensures.value (with_items_is c.args.work c.frame.new.work (omega arith)) refused.1 refused.2 refused.0

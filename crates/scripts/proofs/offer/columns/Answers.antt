@@ -22,7 +22,7 @@ moved {whole = whole} {left = left} {cs = cs} {qs = qs} e f r =
     subst (λ (l : List Component_vec). Reading whole left cs l) (sym f) (subst (λ (l : List Column_vec). Reading whole left l qs) (sym e) r)
 
 pub loop-first-init : goal.loop-first-init
-loop-first-init c = moved c.new-done.ensures.items c.new_column.ensures.items (reading_none (words c.args.text.now))
+loop-first-init c = moved c.new-done.ensures.items c.new-column.ensures.items (reading_none (words c.args.text.now))
 
 pub returns-then-is_empty : goal.returns-then-is_empty
 returns-then-is_empty c =
