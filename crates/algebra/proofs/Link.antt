@@ -2,7 +2,7 @@
 -- the row), clean_link (a block is clean exactly when it encodes a message; one changed symbol changes few).
 use mathlib.Core.Path.{◌≡◌, refl, sym, ap, ap₂, ◌∙◌, subst}
 use mathlib.Core.List.{[], ◌∷◌}
-use Prim.Native.Nat.{ℕ, zero, suc, ◌<◌, zero-le, suc-le-suc, ◌-◌, ◌+◌ as ◌plus◌}
+use Prim.Native.Nat.{ℕ, suc, ◌<◌, zero-le, suc-le-suc, ◌-◌, ◌+◌ as ◌plus◌}
 use native.Mathlib.Decide.{dec_lt, ℕ_discrete}
 use native.Mathlib.Omega.{arith}
 use Rattle.algebra.specs.Rings.{RingOps, RingLaws, IsField}

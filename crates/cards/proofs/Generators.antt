@@ -1,8 +1,8 @@
 -- The generators of a table, taken one after the other, and their heads and records. Assumes nothing.
-use Rattle.std.proofs.Common.{◌≡◌, ℕ, zero, suc, ◌+◌, ◌-◌, ◌*◌, ◌<◌, ◌≤◌, List, [], ◌∷◌, ◌++◌, map, length, take, drop, set, sym, refl, ap, ◌∙◌, arith, drop-drop}
+use Rattle.std.proofs.Common.{◌≡◌, ℕ, suc, ◌+◌, ◌-◌, ◌*◌, ◌<◌, ◌≤◌, List, [], ◌∷◌, ◌++◌, map, length, take, drop, set, sym, ap, ◌∙◌, arith, drop-drop}
 use lib.ListN.{length-map}
 use Rattle.std.proofs.lemmas.List.{take-map, drop-map}
-use Rattle.cards.specs.Cards.{Term, terms, generators, link, records, heads, chains, term_count}
+use Rattle.cards.specs.Cards.{Term, terms, generators, link, records, heads, chains}
 use Rattle.cards.specs.Overwriting.{over}
 use Rattle.cards.proofs.Overwriting.{set_over, over_append}
 use Rattle.cards.proofs.Terms.{length_records, length_terms}

@@ -6,7 +6,7 @@ use Rattle.cards.specs.declared.fault.CardFault.{CardFault}
 use Rattle.cards.specs.declared.fault.CardFault.TheVariants.{PowerTooHigh, PowerNotAbove, Field, ZeroCode}
 use Rattle.cards.specs.Cards.{Term}
 use Rattle.cards.specs.Chains.{byte, record_start, code_at, Names, Chain, Chains}
-use Rattle.cards.specs.Reading.{record_questions, link_questions, Stops, Halted}
+use Rattle.cards.specs.Reading.{link_questions, Stops, Halted}
 use Rattle.cards.proofs.Walks.{link_record, link_zero}
 
 term_path : (t u : Term) → t.power ≡ u.power → t.code ≡ u.code → t ≡ u

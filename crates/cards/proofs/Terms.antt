@@ -1,9 +1,9 @@
 -- The terms of a row of elements, taken one element at a time. Assumes nothing.
-use Rattle.std.proofs.Common.{◌≡◌, ℕ, zero, suc, ◌+◌, ◌*◌, ◌/◌, ◌%◌, ◌<◌, ◌≤◌, List, [], ◌∷◌, ◌++◌, map, length, get_or, take, drop, sym, refl, ap, ◌∙◌, add-one, arith}
+use Rattle.std.proofs.Common.{◌≡◌, ℕ, zero, suc, ◌+◌, ◌*◌, ◌/◌, ◌%◌, ◌<◌, ◌≤◌, List, [], ◌∷◌, map, length, get_or, drop, sym, refl, ap, ◌∙◌, add-one, arith}
 use Rattle.std.proofs.lemmas.List.{drop_more, drop_all}
 use Rattle.cards.specs.Cards.{Term, terms, link, records}
 use Rattle.cards.specs.Overwriting.{over}
-use Rattle.cards.proofs.Overwriting.{over_append, over_nothing}
+use Rattle.cards.proofs.Overwriting.{over_append}
 
 abbrev pub term : ℕ → ℕ → Term
 term k c = record { power = k; code = c }

@@ -1,5 +1,5 @@
 -- The walk along a chain: what its questions say, and what it enters into a table. Assumes nothing.
-use Rattle.std.proofs.Common.{◌≡◌, ℕ, zero, suc, ◌+◌, ◌*◌, ◌<◌, ◌≤◌, Bool, true, false, cond, eqb, ltb, leb, List, [], ◌∷◌, length, get_or, set, Some, None, Option, sym, refl, ap, ◌∙◌, subst, subst₂, add-one, arith, ltb-true, lt-ltb, eq-eqb, ne_eqb, le-leb, leb-true}
+use Rattle.std.proofs.Common.{◌≡◌, ℕ, zero, suc, ◌+◌, ◌*◌, ◌<◌, ◌≤◌, Bool, true, false, cond, ltb, leb, List, [], ◌∷◌, length, set, Some, None, sym, refl, ap, ◌∙◌, subst, subst₂, add-one, arith, ltb-true, eq-eqb, ne_eqb, le-leb, leb-true}
 use native.Mathlib.Decide.{ℕ_discrete}
 use borrow.Author.Tests.{lt-leb}
 use Rattle.algebra.specs.Rings.{RingOps}
@@ -9,7 +9,7 @@ use Rattle.tables.proofs.Places.{at_set_same, at_set_other}
 use Rattle.cards.specs.declared.fault.CardFault.{CardFault}
 use Rattle.cards.specs.declared.fault.CardFault.TheVariants.{NoSuchRecord}
 use Rattle.cards.specs.Cards.{Term}
-use Rattle.cards.specs.Chains.{byte, record_start, code_at, Names, Chain, power_code}
+use Rattle.cards.specs.Chains.{byte, record_start, code_at, Names, power_code}
 use Rattle.cards.specs.Reading.{record_questions, where_named, link_questions, Stops, Entered}
 
 module _ {E : Type 0} where

@@ -1,6 +1,6 @@
 -- The whole card: its length, and that writing its parts one after the other writes it. Assumes nothing.
-use Rattle.std.proofs.Common.{◌≡◌, ℕ, zero, suc, ◌+◌, ◌-◌, ◌*◌, ◌≤◌, List, [], ◌∷◌, ◌++◌, length, take, drop, set, replicate, sym, refl, ap, ◌∙◌, append_assoc, arith, length-append, length-take}
-use Rattle.cards.specs.Cards.{Term, terms, generators, records, heads, chains, term_count, card}
+use Rattle.std.proofs.Common.{◌≡◌, ℕ, zero, suc, ◌+◌, ◌-◌, ◌*◌, ◌≤◌, List, [], ◌∷◌, ◌++◌, length, take, drop, set, replicate, sym, refl, ap, ◌∙◌, arith, length-append, length-take}
+use Rattle.cards.specs.Cards.{Term, generators, records, heads, chains, term_count, card}
 use Rattle.cards.specs.Overwriting.{over}
 use Rattle.cards.proofs.Overwriting.{over_append, over_zeros, set_before, record_start}
 use Rattle.cards.proofs.Terms.{length_records, length_terms}

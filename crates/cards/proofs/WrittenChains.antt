@@ -1,9 +1,9 @@
 -- The heads and records of a written card are chains of the terms that they were written from. Assumes nothing.
-use Rattle.std.proofs.Common.{◌≡◌, ℕ, zero, suc, ◌+◌, ◌-◌, ◌*◌, ◌/◌, ◌%◌, ◌<◌, ◌≤◌, List, [], ◌∷◌, ◌++◌, length, get_or, drop, sym, refl, ap, ◌∙◌, subst, append_assoc, add-zero, arith, get_or-drop, drop-drop}
+use Rattle.std.proofs.Common.{◌≡◌, ℕ, suc, ◌+◌, ◌-◌, ◌*◌, ◌/◌, ◌%◌, ◌<◌, ◌≤◌, List, [], ◌∷◌, ◌++◌, length, get_or, drop, sym, ap, ◌∙◌, append_assoc, arith, get_or-drop, drop-drop}
 use native.Mathlib.Nat.{div-add-mod}
 use lib.Seq.{drop-append-add}
-use Rattle.cards.specs.Cards.{Term, terms, link, records, heads, chains, term_count}
-use Rattle.cards.specs.Chains.{byte, record_start, code_at, Names, Chain, Chains}
+use Rattle.cards.specs.Cards.{Term, link, records, heads, chains, term_count}
+use Rattle.cards.specs.Chains.{byte, record_start, Chain, Chains}
 use Rattle.cards.proofs.Terms.{length_records}
 
 -- terms that may stand in a chain above a floor

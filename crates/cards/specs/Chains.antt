@@ -1,5 +1,5 @@
 -- What a card means: chains of records, and their terms. The clauses of reading and writing cite it; it assumes nothing.
-use Rattle.std.specs.Prelude.{◌≡◌, ℕ, zero, suc, ◌+◌, ◌-◌, ◌*◌, ◌<◌, ◌≤◌, cond, List, [], ◌∷◌, length, ◌==◌, slice_index}
+use Rattle.std.specs.Prelude.{◌≡◌, ℕ, suc, ◌+◌, ◌-◌, ◌*◌, ◌<◌, ◌≤◌, cond, List, [], ◌∷◌, ◌==◌, slice_index}
 use Rattle.cards.specs.Cards.{Term}
 
 abbrev pub byte : List ℕ → ℕ → ℕ

@@ -1,7 +1,7 @@
 -- Columns taken one after the other. Main results: eliminated_none, eliminated_pivotal, eliminated_spanned, eliminated_skipped (what is known after no
 -- column, and after one column more that is pivotal, is not, or is known not to be), sum_of_column,
 -- place_or_none, relations_pivotal, relations_spanned.
-use Rattle.std.proofs.Common.{◌≡◌, ℕ, zero, suc, ◌<◌, ◌≤◌, true, false, ◌⊎◌, [], ◌∷◌, sym, refl, ap, ◌∙◌, subst, ap₂, inl, inr, suc-le-suc, zero-le, le_refl, not-suc-le-zero, arith}
+use Rattle.std.proofs.Common.{◌≡◌, ℕ, zero, suc, ◌<◌, ◌≤◌, true, false, ◌⊎◌, sym, ap, ◌∙◌, subst, ap₂, inl, inr, suc-le-suc, zero-le, le_refl, not-suc-le-zero, arith}
 use native.Mathlib.Decide.{ℕ_discrete, dec_lt}
 use Rattle.algebra.specs.Rings.{RingOps, RingLaws}
 use Rattle.algebra.specs.Series.{total}
@@ -9,7 +9,7 @@ use Rattle.algebra.specs.Independence.{All, Spanned, Independent}
 use Rattle.algebra.proofs.Sums as Sums
 use Rattle.algebra.proofs.Spans as Spans
 use Rattle.algebra.proofs.Rows as Rows
-use Rattle.elimination.specs.Steps.{write, AreSteps, Reduces, Takes, IsSum}
+use Rattle.elimination.specs.Steps.{write, Takes, IsSum}
 use Rattle.elimination.specs.Echelon.{NoPlace, Echelon, Relations, Eliminated}
 use Rattle.elimination.proofs.StepMaps.{write_same, write_other}
 use Rattle.elimination.proofs.Relations as R

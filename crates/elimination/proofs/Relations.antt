@@ -1,13 +1,13 @@
 -- What the steps say of the columns that they turn into unit vectors. Main results: judged_sum (a column with no pivot is their sum), judged_pivotal
 -- (one with a pivot is no such sum), independent_of_steps, steps_more and reduces_more (one step more).
-use Rattle.std.proofs.Common.{◌≡◌, ℕ, zero, suc, ◌<◌, ◌≤◌, [], ◌∷◌, sym, refl, ap, ◌∙◌, subst, ap₂, subst₂, suc-le-suc, zero-le, le_refl, arith}
+use Rattle.std.proofs.Common.{◌≡◌, ℕ, suc, ◌<◌, ◌≤◌, sym, refl, ap, ◌∙◌, subst, ap₂, subst₂, arith}
 use mathlib.Core.Path.{fun_ext}
 use native.Mathlib.Decide.{ℕ_discrete, dec_lt}
-use Rattle.algebra.specs.Rings.{RingOps, RingLaws, FieldLaws}
+use Rattle.algebra.specs.Rings.{RingOps, RingLaws}
 use Rattle.algebra.specs.Series.{total}
 use Rattle.algebra.specs.Independence.{All, Spanned, Independent}
 use Rattle.algebra.proofs.Sums as Sums
-use Rattle.elimination.specs.Steps.{write, front, unit_vector, step, reduced, IsStep, AreSteps, Reduces, IsPivot, IsSum}
+use Rattle.elimination.specs.Steps.{write, front, unit_vector, step, reduced, IsStep, AreSteps, Reduces, IsPivot}
 use Rattle.elimination.proofs.StepMaps as Maps
 use Rattle.elimination.proofs.StepMaps.{write_same, write_other, front_low, front_high, front_is}
 use Rattle.elimination.proofs.Tables.{front_ext}

@@ -1,13 +1,13 @@
 -- Steps of elimination as maps on vectors. Main results: reduced_total (relations among vectors are kept), reduced_kernel (only zero is sent to
 -- zero), step_keeps (vectors that are zero from row t on stay), step_of_pivot (the new pivotal column becomes a unit vector).
-use Rattle.std.proofs.Common.{◌≡◌, ℕ, zero, suc, ◌<◌, ◌≤◌, [], ◌∷◌, sym, refl, ap, ◌∙◌, subst, ap₂, suc-le-suc, zero-le, le_refl, le_of_suc-le-suc, not-suc-le-zero, arith}
+use Rattle.std.proofs.Common.{◌≡◌, ℕ, zero, suc, ◌<◌, ◌≤◌, [], ◌∷◌, sym, refl, ap, ◌∙◌, subst, ap₂, le_refl, le_of_suc-le-suc, not-suc-le-zero, arith}
 use mathlib.Core.Path.{fun_ext}
 use native.Mathlib.Decide.{ℕ_discrete, dec_lt}
 use Rattle.algebra.specs.Rings.{RingOps, RingLaws}
 use Rattle.algebra.specs.Series.{total}
 use Rattle.algebra.proofs.Sums as Sums
 use Rattle.algebra.proofs.Solver.{solve, var, 𝟎, 𝟏, ◌⊞◌, ◌⊠◌, neg}
-use Rattle.elimination.specs.Steps.{write, front, unit_vector, step, reduced, IsStep, AreSteps, Reduces}
+use Rattle.elimination.specs.Steps.{write, front, unit_vector, step, reduced, IsStep, AreSteps}
 
 pub write_same : {A : Type 0} (k : ℕ) (x : A) (f : ℕ → A) → write k x f k ≡ x
 write_same zero x f = refl

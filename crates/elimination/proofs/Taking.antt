@@ -1,11 +1,11 @@
 -- One more column: what its reduced form says of it, and the steps after it.
-use Rattle.std.proofs.Common.{◌≡◌, ℕ, suc, ◌*◌, ◌<◌, ◌≤◌, List, length, get_or, set, sym, refl, ap, ◌∙◌, subst, arith, get_or-set_other, get_or-set_same}
+use Rattle.std.proofs.Common.{◌≡◌, ℕ, suc, ◌*◌, ◌<◌, ◌≤◌, List, length, set, sym, ap, ◌∙◌, subst, arith, get_or-set_other, get_or-set_same}
 use Rattle.algebra.specs.Rings.{RingOps, FieldLaws}
 use Rattle.algebra.specs.Series.{total}
 use Rattle.algebra.specs.Independence.{All, Spanned}
 use Rattle.tables.specs.Places.{at}
 use Rattle.tables.proofs.Places.{at_past}
-use Rattle.elimination.specs.Steps.{write, front, reduced, column_at, entry_at, AreSteps, Reduces, IsPivot, IsSum}
+use Rattle.elimination.specs.Steps.{write, reduced, column_at, entry_at, AreSteps, Reduces, IsPivot, IsSum}
 use Rattle.elimination.proofs.Tables.{columns_same}
 use Rattle.elimination.proofs.Relations as Relations
 

@@ -1,8 +1,6 @@
 -- What a field's calls promise, over the members that its elements mean. The clauses of `Field` cite it; it assumes nothing.
-use Rattle.std.specs.Prelude.{◌≡◌, ℕ, ◌<◌, ◌≤◌, Bool, true, false, Some, None, Ok, Err, Option, Result}
+use Rattle.std.specs.Prelude.{◌≡◌, Bool, true, false, Some, None, Option}
 use Rattle.algebra.specs.Rings.{RingOps}
-use Rattle.fields.specs.declared.fault.FieldFault.{FieldFault}
-use Rattle.fields.specs.declared.fault.FieldFault.TheVariants.{CodeTooLarge}
 
 -- the inverse of x, absent for zero only
 abbrev pub Inverts : {R : Type 0} → RingOps R → R → Option R → Type 0

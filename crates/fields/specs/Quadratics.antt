@@ -1,5 +1,5 @@
 -- Quadratics with no root. The clauses of `Quadratic` cite it; it assumes nothing.
-use Rattle.std.specs.Prelude.{◌≡◌, ◌≢◌}
+use Rattle.std.specs.Prelude.{◌≢◌}
 use Rattle.algebra.specs.Rings.{RingOps}
 
 -- z·z + t·z + c

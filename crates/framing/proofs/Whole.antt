@@ -1,8 +1,8 @@
 -- What holds of the frame in its table: the degrees fit, and no column is zero. Assumes nothing.
 use Rattle.std.proofs.Common.{◌≡◌, ℕ, zero, suc, ◌+◌, ◌-◌, ◌*◌, ◌<◌, ◌≤◌, List, sym, ap, ◌∙◌, subst, arith}
 use native.Mathlib.Decide.{dec_le}
-use Rattle.algebra.specs.Rings.{RingOps, RingLaws, FieldLaws, IsField}
-use Rattle.algebra.specs.Series.{dot, series, Degree}
+use Rattle.algebra.specs.Rings.{RingOps, RingLaws, IsField}
+use Rattle.algebra.specs.Series.{series}
 use Rattle.algebra.specs.Divisors.{AllZero, VectorDegree, MonicGcd, DividedRow}
 use Rattle.algebra.specs.Frames.{FrameColumns, IsFrame}
 use Rattle.algebra.proofs.Bounds as B
@@ -11,7 +11,7 @@ use Rattle.algebra.proofs.Series as S
 use Rattle.algebra.proofs.Sums as Sums
 use Rattle.algebra.proofs.OptimalFrames as Optimal
 use Rattle.tables.proofs.Parts.{poly_at_below}
-use Rattle.frames.specs.Rows.{generator_in, gcd_in, quotient_in, DividedByGcd}
+use Rattle.frames.specs.Rows.{gcd_in, quotient_in, DividedByGcd}
 
 module _ {F R : Type 0} (o : RingOps R) (field : IsField o) (member : F → R) where
   abbrev L : RingLaws o

@@ -1,11 +1,11 @@
 -- The theorem of blocks, carried to the tables. Main results: encodes_message, tells_encoded, brings_home, one_symbol_changes_few.
-use Rattle.std.proofs.Common.{◌≡◌, ℕ, suc, ◌+◌, ◌-◌, ◌*◌, ◌<◌, ◌≤◌, Bool, true, false, ◌↔◌, List, length, sym, refl, ap, ◌∙◌, subst, arith}
+use Rattle.std.proofs.Common.{◌≡◌, ℕ, suc, ◌+◌, ◌-◌, ◌*◌, ◌<◌, ◌≤◌, Bool, true, false, ◌↔◌, List, length, sym, ap, ◌∙◌, subst, arith}
 use mathlib.Core.Path.{fun_ext}
 use native.Mathlib.Decide.{dec_lt}
 use Rattle.algebra.specs.Rings.{RingOps, RingLaws, IsField}
-use Rattle.algebra.specs.Series.{series, Below}
-use Rattle.algebra.specs.Divisors.{Bounded, VectorDegree}
-use Rattle.algebra.specs.Link.{Encodes, Clean, inverted, OneChanged, DifferAtMost}
+use Rattle.algebra.specs.Series.{Below}
+use Rattle.algebra.specs.Divisors.{VectorDegree}
+use Rattle.algebra.specs.Link.{Encodes, Clean, inverted, DifferAtMost}
 use Rattle.algebra.specs.Optimal.{PolynomialVector}
 use Rattle.algebra.specs.Theorems.{CleanLink}
 use Rattle.algebra.proofs.Bounds as B

@@ -1,6 +1,6 @@
 -- A coefficient of a product, one term at a time. Main results: terms_none (where the terms begin), terms_more,
 -- terms_all (where they end), streams_more and streams_all (the sum over the streams).
-use Rattle.std.proofs.Common.{◌≡◌, ℕ, zero, suc, ◌+◌ as ◌plus◌, ◌-◌, ◌<◌, ◌≤◌, sym, refl, ap, ◌∙◌, subst, ap₂, add-one, arith}
+use Rattle.std.proofs.Common.{◌≡◌, ℕ, suc, ◌+◌ as ◌plus◌, ◌-◌, ◌<◌, ◌≤◌, sym, ap, ◌∙◌, ap₂, add-one, arith}
 use Rattle.algebra.specs.Rings.{RingOps, RingLaws}
 use Rattle.algebra.specs.Series.{total, dot, series}
 use Rattle.algebra.proofs.Sums as Sums

@@ -1,10 +1,10 @@
 -- Nibbles are numbered, keep the laws of a ring, and have inverses. Assumes nothing.
 -- The rule is tested against a table at all 256 pairs; the laws are then tested on the table.
-use Rattle.std.specs.Prelude.{Bool, true, false, List, [], ◌∷◌, ◌≡◌, refl, ℕ, zero, suc, ◌+◌, ◌*◌, ◌%◌, ◌<◌, T, eqb, ltb, get_or}
+use Rattle.std.specs.Prelude.{Bool, ◌≡◌, refl, ℕ, zero, suc, ◌%◌, ◌<◌, T, eqb, ltb, get_or}
 use Rattle.std.proofs.Common.{sym, ap, ap₂, ◌∙◌, arith, eqb→eq, ltb→lt}
 use Rattle.std.specs.Int.Bits.{bit_xor, xor_assoc, xor_self, xor_zero_r}
 use Rattle.std.proofs.lemmas.Nat.{xor_comm, xor_lt}
-use Rattle.algebra.specs.Rings.{RingOps, RingLaws, FieldLaws, Invertible, Numbering}
+use Rattle.algebra.specs.Rings.{RingLaws, FieldLaws, Invertible, Numbering}
 use Rattle.fields.specs.Quadratics.{quadratic, Rootless}
 use Rattle.fields.proofs.Tests.{every, every_below, every_pair, every_triple}
 use Rattle.nibbles.specs.Nibbles.{code_of, nibbles, nibble_of, carryless, reduced, nibble_ops}

@@ -1,10 +1,10 @@
 -- Pairs are numbered: the low digit is the low part's number, the high digit the high part's. Assumes nothing.
-use Rattle.std.specs.Prelude.{◌≡◌, ℕ, zero, suc, ◌+◌, ◌*◌, ◌/◌, ◌%◌, ◌<◌, ◌≤◌, refl}
-use Rattle.std.proofs.Common.{sym, ap, ap₂, ◌∙◌, subst, mul-suc, mul-le-mul_left, mul-le-mul, mod-lt, mod-eq_of_lt, div-lt_iff_lt-mul, le-div_iff_mul-le, zero-add, arith}
+use Rattle.std.specs.Prelude.{◌≡◌, ℕ, zero, suc, ◌+◌, ◌*◌, ◌/◌, ◌%◌, ◌<◌, ◌≤◌}
+use Rattle.std.proofs.Common.{sym, ap, ap₂, ◌∙◌, mul-suc, mul-le-mul_left, mul-le-mul, mod-lt, mod-eq_of_lt, div-lt_iff_lt-mul, le-div_iff_mul-le, zero-add, arith}
 use Rattle.std.proofs.Math.Decide.{ℕ_discrete}
 use Rattle.std.proofs.Math.Nat.{div-add-mod, div-eq_of_lt, add-mul-div_left, add-mul-mod_self_left}
 use Rattle.algebra.specs.Rings.{RingOps, Numbering}
-use Rattle.pairs.specs.Pairs.{PairMember, pair, pair_ops, pair_number}
+use Rattle.pairs.specs.Pairs.{pair, pair_ops, pair_number}
 
 -- two digits to the base n
 pub digits_below : (n u v : ℕ) → u < n → v < n → u + n * v < n * n

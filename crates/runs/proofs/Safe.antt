@@ -1,24 +1,21 @@
 -- A run whose design, where it is framed, keeps its promises, goes on so. Assumes nothing.
-use Rattle.std.proofs.Common.{◌≡◌, ℕ, zero, suc, ◌+◌, ◌-◌, ◌*◌, ◌<◌, ◌≤◌, Bool, true, false, eqb, leb, ◌⊎◌, List, [], ◌∷◌, length, IfOk, Some, None, Ok, Err, vec_items, Option, Result, sym, refl, ap, ◌∙◌, subst, subst₂, inl, inr, true≢false, arith, MatchResult}
+use Rattle.std.proofs.Common.{◌≡◌, ℕ, zero, suc, ◌-◌, ◌<◌, ◌≤◌, Bool, true, false, eqb, ◌⊎◌, List, ◌∷◌, length, IfOk, Some, None, Ok, Err, Option, Result, sym, refl, ap, ◌∙◌, subst, inl, inr, true≢false, arith, MatchResult}
 use mathlib.Core.Path.{fun_ext}
 use Rattle.std.proofs.lemmas.Bool.Decides.{eqb_tells}
 use Rattle.algebra.specs.Divisors.{Monic, DividedRow, VectorDegree}
-use Rattle.algebra.specs.Link.{Encodes}
 use Rattle.algebra.specs.Optimal.{DegreeOptimal}
 use Rattle.algebra.specs.Rings.{RingOps, FieldLaws}
-use Rattle.algebra.specs.Series.{series, constant, Degree}
+use Rattle.algebra.specs.Series.{series, Degree}
 use Rattle.algebra.proofs.Series as S
 use Rattle.fields.specs.Questions.{Question, first_no, asks}
 use Rattle.frames.specs.Rows.{generator_in}
-use Rattle.framing.specs.Framing.{column_in, divisor_in, DegreesFrom}
-use Rattle.design.specs.declared.draft.Draft.{Draft}
+use Rattle.framing.specs.Framing.{column_in, divisor_in}
 use Rattle.design.specs.declared.framed.Framed.{Framed}
-use Rattle.design.specs.declared.fault.DesignFault.{DesignFault}
 use Rattle.design.specs.Frames.{Frames}
 use Rattle.design.specs.Offers.{Offers}
 use Rattle.design.specs.Standing.{StandsFramed}
 use Rattle.link.specs.declared.fault.LinkFault.{LinkFault}
-use Rattle.link.specs.Blocks.{message_series, stream, generator, Tells}
+use Rattle.link.specs.Blocks.{message_series, generator, Tells}
 use Rattle.link.specs.Guarantees.{OptimalFrame, OneSymbolChangesFew}
 use Rattle.link.specs.Questions.{link_questions, symbols_in}
 use Rattle.runs.specs.declared.request.Design.{Design}

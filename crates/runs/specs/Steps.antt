@@ -1,6 +1,6 @@
 -- One call of a run: which answer it gives, and what it leaves. Each case states what the contract of the call of that name states.
 -- The clauses of `perform` cite it; it assumes nothing.
-use Rattle.std.specs.Prelude.{◌≡◌, ℕ, ◌-◌, Bool, true, false, List, [], ◌∷◌, length, IfOk, Some, None, Ok, Err, vec_items, Result, MatchResult, OnOk}
+use Rattle.std.specs.Prelude.{◌≡◌, ℕ, ◌-◌, Bool, true, false, List, length, IfOk, Some, None, Ok, Err, vec_items, Result, MatchResult, OnOk}
 use Rattle.std.specs.Result.{result_err}
 use Rattle.algebra.specs.Link.{Clean, Encodes}
 use Rattle.algebra.specs.Rings.{RingOps}

@@ -1,12 +1,12 @@
 -- Tones are numbered, keep the laws of a ring, and have inverses. Assumes nothing.
-use Rattle.std.specs.Prelude.{Bool, true, false, List, [], ◌∷◌, ◌≡◌, refl, ℕ, zero, suc, ◌+◌, ◌-◌, ◌*◌, ◌/◌, ◌%◌, ◌<◌, T, eqb, get_or}
+use Rattle.std.specs.Prelude.{Bool, ◌≡◌, refl, ℕ, zero, suc, ◌+◌, ◌-◌, ◌*◌, ◌/◌, ◌%◌, ◌<◌, eqb, get_or}
 use Rattle.std.proofs.Common.{sym, ap, ◌∙◌, add_comm, add-zero, mul_comm, mul_assoc, add-mul, mul-one, arith, eqb→eq}
 use Rattle.std.proofs.Math.Nat.{add-mul-mod_self_left, div-add-mod}
-use Rattle.algebra.specs.Rings.{RingOps, RingLaws, FieldLaws, Invertible, Numbering}
+use Rattle.algebra.specs.Rings.{RingLaws, FieldLaws, Invertible, Numbering}
 use Rattle.tones.specs.Tones.{number_of, tones, tone_of, tone_ops, inverses}
 use Rattle.tones.specs.declared.Tone.{Tone}
 use Rattle.tones.specs.declared.Tone.TheVariants.{T0, T1, T2, T3, T4, T5, T6, T7, T8, T9, T10, T11, T12, T13, T14, T15, T16, T17, T18, T19, T20, T21, T22, T23, T24, T25, T26, T27, T28, T29, T30}
-use Rattle.fields.proofs.Tests.{every, every_below}
+use Rattle.fields.proofs.Tests.{every_below}
 
 pub tone_number : (x : Tone) → tone_of (number_of x) ≡ x
 tone_number T0 = refl

@@ -1,4 +1,4 @@
-use Rattle.std.proofs.Common.{◌≡◌, ◌*◌, ◌<◌, ◌≤◌, length, ap, ◌∙◌, subst, mul-le-mul_left, arith}
+use Rattle.std.proofs.Common.{◌≡◌, ◌<◌, ◌≤◌, length, subst, mul-le-mul_left, arith}
 use Rattle.tables.specs.Places.{at}
 use Rattle.elimination.specs.Steps.{column_at, entry_at, IsPivot}
 use Rattle.elimination.proofs.Tables.{row_room}

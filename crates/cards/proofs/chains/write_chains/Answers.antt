@@ -1,4 +1,4 @@
-use Rattle.std.proofs.Common.{◌≡◌, ◌+◌, ◌-◌, ◌*◌, ◌≤◌, map, length, sym, ap, ◌∙◌, arith}
+use Rattle.std.proofs.Common.{◌≡◌, ◌+◌, ◌-◌, ◌*◌, map, length, sym, ap, ◌∙◌, arith}
 use Rattle.cards.specs.Cards.{terms, records, chains}
 use Rattle.cards.specs.Overwriting.{over}
 use Rattle.cards.proofs.Overwriting.{over_nothing}

@@ -2,7 +2,7 @@ use Rattle.std.proofs.Common.{◌≡◌, ◌+◌, map, length, sym, ap, ◌∙�
 use Rattle.cards.specs.Cards.{terms, heads, term_count}
 use Rattle.cards.specs.Overwriting.{over}
 use Rattle.cards.proofs.Overwriting.{over_nothing}
-use Rattle.cards.proofs.Generators.{generators_from, row_terms, from_first, from_next, from_last, heads_step}
+use Rattle.cards.proofs.Generators.{row_terms, from_first, from_next, from_last, heads_step}
 use Rattle.cards.proofs.chains.write_heads.Goals as goal
 
 pub overflow_add-next : goal.overflow_add-next

@@ -1,4 +1,4 @@
-use Rattle.std.proofs.Common.{◌≡◌, sym, ap, ◌∙◌, ap₂, arith}
+use Rattle.std.proofs.Common.{sym, ◌∙◌, ap₂, arith}
 use Rattle.tables.specs.Places.{at}
 use Rattle.elimination.proofs.Columns.{at_is, step_written}
 use Rattle.elimination.proofs.steps.apply_step.Goals as goal

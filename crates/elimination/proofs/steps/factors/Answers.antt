@@ -1,4 +1,4 @@
-use Rattle.std.proofs.Common.{◌≡◌, ◌+◌, ◌-◌, ◌*◌, length, take, drop, sym, ap, ◌∙◌, arith, length-drop, length-take}
+use Rattle.std.proofs.Common.{◌≡◌, ◌+◌, ◌-◌, ◌*◌, take, drop, ap, ◌∙◌, arith, length-drop, length-take}
 use Rattle.tables.specs.Places.{at}
 use Rattle.elimination.proofs.Tables.{at_part}
 use Rattle.elimination.proofs.steps.factors.Goals as goal

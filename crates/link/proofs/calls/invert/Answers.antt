@@ -1,4 +1,4 @@
-use Rattle.std.proofs.Common.{◌≡◌, ℕ, ◌<◌, length, ◌∙◌, arith}
+use Rattle.std.proofs.Common.{◌∙◌, arith}
 use Rattle.link.specs.Blocks.{column, Inverted}
 use Rattle.link.proofs.Guarantees.{brings_home, one_symbol_changes_few}
 use Rattle.link.proofs.Streams.{dot_streams}

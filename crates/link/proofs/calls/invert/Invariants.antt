@@ -1,4 +1,4 @@
-use Rattle.std.proofs.Common.{◌≡◌, ℕ, ◌+◌, ◌*◌, ◌<◌}
+use Rattle.std.proofs.Common.{◌≡◌, ℕ, ◌<◌}
 use Rattle.algebra.specs.Series.{dot, series}
 use Rattle.tables.specs.Places.{at}
 use Rattle.link.specs.Blocks.{column, stream}

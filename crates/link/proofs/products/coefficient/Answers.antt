@@ -1,4 +1,4 @@
-use Rattle.std.proofs.Common.{◌≡◌, ◌+◌, ◌-◌, ◌*◌, ◌<◌, ◌≤◌, length, sym, ap, ◌∙◌, ap₂, arith, rules}
+use Rattle.std.proofs.Common.{◌-◌, ◌*◌, ◌≤◌, length, sym, ap, ◌∙◌, arith, rules}
 use Rattle.tables.specs.Places.{poly_at}
 use Rattle.tables.proofs.Parts.{poly_at_in, poly_at_below}
 use Rattle.link.specs.Blocks.{stream}

@@ -1,5 +1,4 @@
-use Rattle.std.proofs.Common.{ℕ, ◌+◌, ◌*◌, sym, ap, ◌∙◌, ap₂, add-one, arith}
-use Rattle.algebra.specs.Series.{series}
+use Rattle.std.proofs.Common.{◌+◌, ◌*◌, ◌∙◌, arith}
 use Rattle.tables.specs.Places.{poly_at}
 use Rattle.link.specs.Blocks.{stream}
 use Rattle.link.proofs.Terms.{streams_more, streams_all}

@@ -1,4 +1,4 @@
-use Rattle.std.proofs.Common.{◌≡◌, ℕ, ◌+◌, ◌*◌}
+use Rattle.std.proofs.Common.{◌≡◌, ◌+◌, ◌*◌}
 use Rattle.tables.specs.Places.{poly_at}
 use Rattle.link.specs.Blocks.{stream}
 use Rattle.link.proofs.Terms.{streams}

@@ -1,8 +1,8 @@
-use Rattle.std.proofs.Common.{◌≡◌, ◌∷◌, ap, ◌∙◌, subst}
+use Rattle.std.proofs.Common.{◌∷◌, ap, ◌∙◌, subst}
 use Rattle.scripts.specs.declared.arguments.Unread.{Unread}
 use Rattle.scripts.specs.declared.call.Call.{Call}
 use Rattle.scripts.specs.Meaning.{Means, Fails}
-use Rattle.scripts.specs.Words.{words, uncommented}
+use Rattle.scripts.specs.Words.{words}
 use Rattle.scripts.proofs.line.read_line.Goals as goal
 
 pub returns-in_default-of : goal.returns-in_default-of

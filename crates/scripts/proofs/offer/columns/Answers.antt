@@ -1,9 +1,9 @@
-use Rattle.std.proofs.Common.{◌≡◌, ℕ, ◌<◌, true, false, List, [], ◌∷◌, ◌++◌, length, vec_items, codes, Vec, sym, refl, ap, ◌∙◌, subst, arith, true-eqb, false-eqb}
+use Rattle.std.proofs.Common.{◌≡◌, ℕ, ◌<◌, true, false, List, [], length, vec_items, codes, Vec, sym, refl, ap, ◌∙◌, subst, arith, true-eqb, false-eqb}
 use Rattle.std.proofs.lemmas.Slice.Eq.{bytes_eq-Decides}
 use Rattle.std.proofs.lemmas.Result.{err_from_is_err_and}
 use Rattle.std.proofs.lemmas.Bool.Decides.{same_from_decides}
 use Rattle.std.specs.declared.alloc.Global.{Global}
-use Rattle.scripts.specs.Meaning.{Each, Polynomial, Columns, bar}
+use Rattle.scripts.specs.Meaning.{Polynomial, Columns, bar}
 use Rattle.scripts.specs.Words.{words, pieces}
 use Rattle.scripts.proofs.Bars.{Column, Reading, reading_none, reading_word, reading_close, reading_next, pieces_bar, empty_refuted, word_refuted}
 use Rattle.scripts.proofs.Each.{sofar_all}

@@ -1,4 +1,4 @@
-use Rattle.std.proofs.Common.{◌≡◌, ℕ, List, [], ◌∷◌, vec_items, sym, refl, subst}
+use Rattle.std.proofs.Common.{ℕ, List, [], vec_items, sym, refl, subst}
 use Rattle.std.proofs.lemmas.Option.{MatchOption-at_some, MatchOption-at_none}
 use Rattle.scripts.specs.declared.words.Mark.TheVariants.{Comma}
 use Rattle.scripts.specs.Meaning.{Each}

@@ -1,6 +1,6 @@
-use Rattle.std.proofs.Common.{◌≡◌, suc, ◌+◌, ◌<◌, length, get_or, drop, sym, ap, ◌∙◌, add-one, arith}
+use Rattle.std.proofs.Common.{◌≡◌, suc, ◌<◌, length, drop, sym, ap, ◌∙◌, add-one, arith}
 use Rattle.std.proofs.lemmas.List.{drop-drop}
-use Rattle.scripts.specs.Words.{marks, pieces, first_of}
+use Rattle.scripts.specs.Words.{first_of}
 use Rattle.scripts.proofs.Pieces.{pieces_whole, pieces_cut}
 use Rattle.scripts.proofs.words.cut_at.Goals as goal
 

@@ -1,7 +1,7 @@
-use Rattle.std.proofs.Common.{◌≡◌, ◌<◌, [], ◌∷◌, length, sym, ap, ◌∙◌, arith, true-eqb, false-eqb}
+use Rattle.std.proofs.Common.{◌≡◌, ◌<◌, [], ◌∷◌, length, sym, ap, ◌∙◌, arith, false-eqb}
 use Rattle.std.proofs.lemmas.Option.{MatchOption-at_some, MatchOption-at_none}
 use Rattle.scripts.specs.Words.{words}
-use Rattle.scripts.proofs.Pieces.{words_more, words_skip}
+use Rattle.scripts.proofs.Pieces.{words_more}
 use Rattle.scripts.proofs.words.first_word.Goals as goal
 use Rattle.scripts.proofs.words.first_word.Goals.{in-Some, in-None}
 

@@ -1,4 +1,4 @@
-use Rattle.std.proofs.Common.{◌≡◌, ℕ, ◌-◌, sym, ◌∙◌, subst, subst₂, rules}
+use Rattle.std.proofs.Common.{ℕ, ◌-◌, sym, ◌∙◌, subst, subst₂, rules}
 use Rattle.algebra.proofs.Fields.{field_of}
 use Rattle.algebra.proofs.OptimalFrames.{frame_optimal}
 use Rattle.frames.specs.Rows.{generator_in}

@@ -1,6 +1,5 @@
 use Rattle.std.proofs.Common.{◌≡◌, sym, ◌∙◌, arith, below_more}
 use Rattle.std.proofs.lemmas.Bool.Decides.{not_from_Decides}
-use Rattle.scripts.specs.declared.call.FieldName.{FieldName}
 use Rattle.scripts.specs.declared.call.FieldName.TheVariants.{Tones, Nibbles, Bytes, TonePairs}
 use Rattle.scripts.specs.Spelling.{named}
 use Rattle.scripts.proofs.call.FieldName.of.Goals as goal
