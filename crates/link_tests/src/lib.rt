@@ -162,20 +162,8 @@ mod tests {
         Ok(message)
     }
 
-    // The symbols of some codes.
-    fn coded_message<F: Field + Clone + Drop>(heap: Global, codes: &[u32]) -> Result<Vec<F>, Fail> {
-        let mut message = Vec::new(heap);
-        for code in codes {
-            let Ok(x) = F::element(*code) else {
-                return Err(Fail::new("no such code"));
-            };
-            message.push(x)?;
-        }
-        Ok(message)
-    }
-
     // Sends a message of five symbols, and hits each symbol of its block in turn.
-    fn sends<F: Field + Clone + Drop>(
+    fn carries<F: Field + Clone + Drop>(
         rt: &impl Abort,
         heap: Global,
         message: Vec<F>,
@@ -221,23 +209,39 @@ mod tests {
         Ok(())
     }
 
+    // Sends the message of five codes.
+    fn sends<F: Field + Clone + Drop>(
+        rt: &impl Abort,
+        heap: Global,
+        codes: &[u32],
+    ) -> Result<(), Fail> {
+        let mut message = Vec::new(heap);
+        for code in codes {
+            let Ok(x) = F::element(*code) else {
+                return Err(Fail::new("no such code"));
+            };
+            message.push(x)?;
+        }
+        carries(rt, heap, message)
+    }
+
     #[test]
     fn messages_come_home(rt: HostRuntime) -> Result<(), Fail> {
         let heap = rt.alloc();
-        sends::<Tone>(&rt, heap, coded_message(heap, &[3, 1, 30, 0, 17])?)?;
-        sends::<Nibble>(&rt, heap, coded_message(heap, &[9, 0, 15, 2, 8])?)?;
-        sends::<Byte>(&rt, heap, coded_message(heap, &[255, 16, 1, 0, 77])?)?;
-        sends::<TonePair>(&rt, heap, coded_message(heap, &[960, 31, 0, 480, 2])?)
+        sends::<Tone>(&rt, heap, &[3, 1, 30, 0, 17])?;
+        sends::<Nibble>(&rt, heap, &[9, 0, 15, 2, 8])?;
+        sends::<Byte>(&rt, heap, &[255, 16, 1, 0, 77])?;
+        sends::<TonePair>(&rt, heap, &[960, 31, 0, 480, 2])
     }
 
     #[test]
     fn random_messages_come_home(rt: HostRuntime) -> Result<(), Fail> {
         let heap = rt.alloc();
         for seed in 0..50u32 {
-            sends::<Tone>(&rt, heap, random_message(heap, seed)?)?;
-            sends::<Nibble>(&rt, heap, random_message(heap, seed)?)?;
-            sends::<Byte>(&rt, heap, random_message(heap, seed)?)?;
-            sends::<TonePair>(&rt, heap, random_message(heap, seed)?)?;
+            carries::<Tone>(&rt, heap, random_message(heap, seed)?)?;
+            carries::<Nibble>(&rt, heap, random_message(heap, seed)?)?;
+            carries::<Byte>(&rt, heap, random_message(heap, seed)?)?;
+            carries::<TonePair>(&rt, heap, random_message(heap, seed)?)?;
         }
         Ok(())
     }

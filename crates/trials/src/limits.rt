@@ -1,5 +1,5 @@
 // The limits of the calls: what just passes, and what is refused by which number.
-use crate::framing::frame_row;
+use crate::framed::frame_row;
 use crate::station::Tables;
 use crate::tally::Tally;
 use crate::worked::{Term, row_of, square_and_line};

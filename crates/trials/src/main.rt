@@ -2,7 +2,7 @@
 #![tactic(auto)]
 
 mod blocks;
-mod framing;
+mod framed;
 mod keeping;
 mod limits;
 mod offers;
@@ -14,7 +14,7 @@ use blocks::{Sendings, try_message};
 use design::draft::Draft;
 use design::framed::Framed;
 use fields::field::Field;
-use framing::{
+use framed::{
     columns_agree, components_agree, frame_row, numbers_agree, products_agree, refusal_agrees,
     reopening_agrees,
 };

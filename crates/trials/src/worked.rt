@@ -1,5 +1,5 @@
 // Designs whose frames, blocks and cards were worked out by hand.
-use crate::framing::{columns_agree, components_agree, frame_row, numbers_agree, products_agree};
+use crate::framed::{columns_agree, components_agree, frame_row, numbers_agree, products_agree};
 use crate::keeping::reading_agrees;
 use crate::station::{Tables, enter, holds};
 use crate::tally::Tally;
