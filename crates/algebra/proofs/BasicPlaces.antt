@@ -64,7 +64,7 @@ module _ {M : Type 0} (o : RingOps M) (F : IsField o) (m d : ℕ) (r : ℕ → �
   firsts : (j : ℕ) → j < m → FirstNonPivotal o n d r (class j)
   firsts j l = cl.first (class j) (Rows.skip_lt cl.free m j l) (Rows.skip_ne cl.free j)
 
-  -- the powers of the first non_pivotal places of the other classes
+  -- the powers of the first non-pivotal places of the other classes
   power : ℕ → ℕ
   power j = elim (dec_lt j m) [ yes l ↦ (firsts j l).power | no l ↦ 0 ]
 

@@ -28,7 +28,7 @@ use Rattle.algebra.proofs.TestPassed as Passed
 
 -- vectors w with leading places p in distinct classes, and multipliers x
 module _ {M : Type 0} (o : RingOps M) (F : IsField o) (n : ℕ) (positive : zero < n) (m : ℕ) (w : ℕ → ℕ → ℕ → M) (p : ℕ → ℕ)
-    (w-below : (j : ℕ) → j < m → BelowPlace o n (suc (p j)) (w j)) (w-leading : (j : ℕ) → j < m → at n (w j) (p j) ≡ o.one)
+    (w_below : (j : ℕ) → j < m → BelowPlace o n (suc (p j)) (w j)) (w_leading : (j : ℕ) → j < m → at n (w j) (p j) ≡ o.one)
     (distinct : (i j : ℕ) → i < m → j < m → p i % n ≡ p j % n → i ≡ j) where
   abbrev L : RingLaws o
   L = F.laws.ring
@@ -55,7 +55,7 @@ module _ {M : Type 0} (o : RingOps M) (F : IsField o) (n : ℕ) (positive : zero
 
       go : Dec (suc T ≤ p l plus n * a) → x l a ⊙ w l i b ≡ O
       go (yes y) = ap (λ t. t ⊙ w l i b) (z l a c y) ∙ Sums.zero_product o L (w l i b)
-      go (no y) = ap (λ t. x l a ⊙ t) (w-below l c i b h above) ∙ Sums.product_zero o L (x l a)
+      go (no y) = ap (λ t. x l a ⊙ t) (w_below l c i b h above) ∙ Sums.product_zero o L (x l a)
         where
           above : suc (p l) ≤ n * b plus i
           above = elim (dec_le (suc (p l)) (n * b plus i)) [ yes g ↦ g | no g ↦ absurd (ne (let e = places in omega arith)) ]
@@ -73,7 +73,7 @@ module _ {M : Type 0} (o : RingOps M) (F : IsField o) (n : ℕ) (positive : zero
       let places = ap (λ t. n * t) split ∙ mul-add n e b in
       let same : n * b plus i ≡ p j = omega arith in
       S.coefficient_one_term o L (x j) (w j i) k e b (omega arith) (λ a y g ne. term T x z j i k a y c h q g (λ u. ne (eq_of_mul-eq-mul_left n positive a e (omega arith))))
-      ∙ ap (λ t. x j e ⊙ t) (sym (Places.at_place n positive (w j) i b h) ∙ ap (at n (w j)) same ∙ w-leading j c)
+      ∙ ap (λ t. x j e ⊙ t) (sym (Places.at_place n positive (w j) i b h) ∙ ap (at n (w j)) same ∙ w_leading j c)
       ∙ L.product_one (x j e)
 
   module _ (x : ℕ → ℕ → M) (h : ℕ → ℕ → M) (is : (i : ℕ) → i < n → h i ≡ total (series o) m (λ j. x j · w j i)) where
@@ -169,7 +169,7 @@ module _ {M : Type 0} (o : RingOps M) (F : IsField o) (m : ℕ) (a : ℕ → ℕ
       let f = div-add-mod (p (suc j)) n in
       Reduction.power_le o F n n_positive (p j / n) (p (suc j) / n) (p (suc j) % n) (mod-lt (p (suc j)) n_positive) (omega arith)
 
-  -- every non_pivotal place is a leading place of a check column, shifted
+  -- every non-pivotal place is a leading place of a check column, shifted
   nonpivotal_is : (q : ℕ) → q < n * suc d → NonPivotal o n d r q → (j : ℕ) × (j < m) × (e : ℕ) × (q ≡ p j plus n * e)
   nonpivotal_is q l s =
       let z = Syzygies.syzygy_of_nonpivotal o F n n_positive d r x.degree.bounded q l s in

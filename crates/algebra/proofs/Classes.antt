@@ -1,5 +1,5 @@
--- The classes of places, by component. Main results: classes (exactly one class has no non_pivotal place, and no syzygy has its leading place
--- in it), basic_of_first and first_of_basic (the basic places are the first non_pivotal ones of the other classes).
+-- The classes of places, by component. Main results: classes (exactly one class has no non-pivotal place, and no syzygy has its leading place
+-- in it), basic_of_first and first_of_basic (the basic places are the first non-pivotal ones of the other classes).
 use mathlib.Core.Path.{◌≡◌, refl, sym, ap, ◌∙◌, subst}
 use mathlib.Core.Logic.{◌⊎◌, inl, inr}
 use Prim.Native.Nat.{ℕ, zero, suc, ◌≤◌, ◌<◌, ◌*◌, ◌/◌, ◌%◌, ◌-◌, ◌+◌ as ◌plus◌}
@@ -19,14 +19,14 @@ use Rattle.algebra.proofs.Reduction as Reduction
 use Rattle.algebra.proofs.Syzygies as Syzygies
 use Rattle.algebra.proofs.Syzygies.{SyzygyAt}
 
--- the first non_pivotal place of class i
+-- the first non-pivotal place of class i
 pub record FirstNonPivotal {M : Type 0} (o : RingOps M) (n d : ℕ) (r : ℕ → ℕ → M) (i : ℕ) : Type 0 where
   pub power : ℕ
   pub within : power < suc d
   pub non_pivotal : NonPivotal o n d r (n * power plus i)
   pub earlier : (k : ℕ) → k < power → NonPivotal o n d r (n * k plus i) → ⊥
 
--- one class is free of syzygies, and each other has a first non_pivotal place
+-- one class is free of syzygies, and each other has a first non-pivotal place
 pub record Classes {M : Type 0} (o : RingOps M) (n d : ℕ) (r : ℕ → ℕ → M) : Type 0 where
   pub free : ℕ
   pub free_within : free < n
@@ -111,7 +111,7 @@ module _ {M : Type 0} (o : RingOps M) (F : IsField o) (n : ℕ) (positive : zero
     syzygy = Spans.dot_scale (series o) (S.series_laws o L) n r s.vector (shift o e (constant o o.one)) ∙ ap (λ t. (series o).product (shift o e (constant o o.one)) t) s.syzygy ∙ Sums.product_zero (series o) (S.series_laws o L) (shift o e (constant o o.one));
   }
 
-  -- non_pivotal places are closed under adding multiples of n
+  -- non-pivotal places are closed under adding multiples of n
   pub nonpivotal_above : (i k l : ℕ) → i < n → k ≤ l → k < suc d → NonPivotal o n d r (n * k plus i) → NonPivotal o n d r (n * l plus i)
   nonpivotal_above i k l a h b s =
       let e = l - k in

@@ -52,15 +52,15 @@ module _ {M : Type 0} (o : RingOps M) (F : IsField o) where
           let fits : e plus j ≡ N = omega arith in
           let c = leading_ratio f b e N d in
           let t = shift o j (constant o c.0) in
-          let t-below : Below o (suc j) t = B.below_shift o L j 1 (suc j) (constant o c.0) (omega arith) (B.below_constant o L c.0) in
-          let top : (b · t) N ≡ f N = ap (b · t) (sym fits) ∙ B.leading_product o L e j b t d.below t-below ∙ ap (λ x. b e ⊙ x) (S.shift_at o L j j 0 (constant o c.0) (omega arith)) ∙ c.1 in
+          let t_below : Below o (suc j) t = B.below_shift o L j 1 (suc j) (constant o c.0) (omega arith) (B.below_constant o L c.0) in
+          let top : (b · t) N ≡ f N = ap (b · t) (sym fits) ∙ B.leading_product o L e j b t d.below t_below ∙ ap (λ x. b e ⊙ x) (S.shift_at o L j j 0 (constant o c.0) (omega arith)) ∙ c.1 in
           let g = f + (- (b · t)) in
-          let g_below : Below o N g = B.below_top o L N g (B.below_sum o L (suc N) f (- (b · t)) h (B.below_negative o L (suc N) (b · t) (B.below_product o L (suc e) (suc j) (suc N) b t (omega arith) d.below t-below))) (ap (λ x. o.sum (f N) (minus x)) top ∙ L.sum_negative (f N)) in
+          let g_below : Below o N g = B.below_top o L N g (B.below_sum o L (suc N) f (- (b · t)) h (B.below_negative o L (suc N) (b · t) (B.below_product o L (suc e) (suc j) (suc N) b t (omega arith) d.below t_below))) (ap (λ x. o.sum (f N) (minus x)) top ∙ L.sum_negative (f N)) in
           let r = rest g g_below in
           record {
             quotient = r.quotient + t;
             remainder = r.remainder;
-            polynomial = B.polynomial_sum o L r.quotient t r.polynomial (suc j, t-below);
+            polynomial = B.polynomial_sum o L r.quotient t r.polynomial (suc j, t_below);
             small = r.small;
             is = step_is f b t r.quotient r.remainder r.is;
           }

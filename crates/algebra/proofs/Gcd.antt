@@ -115,8 +115,8 @@ module _ {M : Type 0} (o : RingOps M) (F : IsField o) where
       go r =
           let c = r.divisor in
           let h = r.combination.vector in
-          let c-polynomial : Polynomial o c = subst (Polynomial o) r.combination.is (combination_polynomial n (λ i. a (suc i)) h (λ i l. p (suc i) (suc-le-suc l)) r.combination.polynomials) in
-          let d = pair_gcd c-polynomial.0 (a 0) c (p 0 (suc-le-suc zero-le)) c-polynomial.1 in
+          let c_polynomial : Polynomial o c = subst (Polynomial o) r.combination.is (combination_polynomial n (λ i. a (suc i)) h (λ i l. p (suc i) (suc-le-suc l)) r.combination.polynomials) in
+          let d = pair_gcd c_polynomial.0 (a 0) c (p 0 (suc-le-suc zero-le)) c_polynomial.1 in
           record {
             divisor = d.divisor;
             combination = record {
@@ -178,8 +178,8 @@ module _ {M : Type 0} (o : RingOps M) (F : IsField o) where
   pub gcd_exists : (n : ℕ) (a : ℕ → ℕ → M) → ((i : ℕ) → i < n → Polynomial o (a i)) → (AllZero o n a → ⊥) → GcdOfRow o n a
   gcd_exists n a p n0 =
       let r = row_gcd n a p in
-      let d-polynomial : Polynomial o r.divisor = subst (Polynomial o) r.combination.is (combination_polynomial n a r.combination.vector p r.combination.polynomials) in
-      let e = D.degree_exists o F r.divisor d-polynomial (row_nonzero n a r n0) in
+      let d_polynomial : Polynomial o r.divisor = subst (Polynomial o) r.combination.is (combination_polynomial n a r.combination.vector p r.combination.polynomials) in
+      let e = D.degree_exists o F r.divisor d_polynomial (row_nonzero n a r n0) in
       let m = monic_of r.divisor e.0 e.1 in
       let c = scale_combination n a r.divisor (constant o m.0) (B.polynomial_constant o L m.0) r.combination in
       record {
@@ -198,8 +198,8 @@ module _ {M : Type 0} (o : RingOps M) (F : IsField o) where
   -- the degree of a multiple
   divides_degree : (g h : ℕ → M) (e d : ℕ) → Degree o g e → Degree o h d → (p : Divides o g h) → (c : ℕ) × (Degree o p.quotient c) × (d ≡ e plus c)
   divides_degree g h e d p q v =
-      let quotient-nonzero : v.quotient ≡ 𝟘 → ⊥ = λ z. D.degree_nonzero o F h d q (sym v.is ∙ ap (λ t. g · t) z ∙ Sums.product_zero (series o) SL g) in
-      let c = D.degree_exists o F v.quotient v.polynomial quotient-nonzero in
+      let quotient_nonzero : v.quotient ≡ 𝟘 → ⊥ = λ z. D.degree_nonzero o F h d q (sym v.is ∙ ap (λ t. g · t) z ∙ Sums.product_zero (series o) SL g) in
+      let c = D.degree_exists o F v.quotient v.polynomial quotient_nonzero in
       let both : Degree o h (e plus c.0) = subst (λ (t : ℕ → M). Degree o t (e plus c.0)) v.is (D.degree_product o F g v.quotient e c.0 p c.1) in
       (c.0, c.1, D.degree_unique o F h d (e plus c.0) q both)
 
@@ -211,7 +211,7 @@ module _ {M : Type 0} (o : RingOps M) (F : IsField o) where
   monic_unique g h p q v w =
       let c = divides_degree g h p.degree q.degree (monic_degree g p) (monic_degree h q) v in
       let c' = divides_degree h g q.degree p.degree (monic_degree h q) (monic_degree g p) w in
-      let c-eq = c.2 in
+      let c_eq = c.2 in
       let c'-eq = c'.2 in
       let none : c.0 ≡ 0 = omega arith in
       let small : Below o 1 v.quotient = B.below_mono o L (suc c.0) 1 v.quotient (omega arith) c.1.below in

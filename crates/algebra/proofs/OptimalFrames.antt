@@ -86,12 +86,12 @@ module _ {M : Type 0} (o : RingOps M) (F : IsField o) where
   pub frame_unique : (m : ℕ) (a : ℕ → ℕ → M) (g h : ℕ → M) (d e : ℕ) (c b : ℕ → ℕ → ℕ → M) → IsFrame o m a g d c
       → IsFrame o m a h e b → (g ≡ h) × (d ≡ e) × ((j i : ℕ) → j < suc m → i < suc m → c j i ≡ b j i)
   frame_unique m a g h d e c b x y =
-      let g-same = G.gcd_unique o F (suc m) a g h x.divisor y.divisor in
-      let divided : DividedRow o (suc m) a g y.row = subst (λ (t : ℕ → M). DividedRow o (suc m) a t y.row) (sym g-same) y.divided in
+      let g_same = G.gcd_unique o F (suc m) a g h x.divisor y.divisor in
+      let divided : DividedRow o (suc m) a g y.row = subst (λ (t : ℕ → M). DividedRow o (suc m) a t y.row) (sym g_same) y.divided in
       let rows = R.divided_row_unique o F (suc m) a g x.divisor y.row x.row divided x.divided in
-      let d-same = vector_degree_unique (suc m) x.row y.row d e (λ i l. sym (rows i l)) x.degree y.degree in
-      let columns : FrameColumns o m d y.row y.place b = subst (λ (t : ℕ). FrameColumns o m t y.row y.place b) (sym d-same) y.columns in
-      (g-same, d-same, Frames.frame_columns_unique o F m d x.row x.degree x.place y.place c b x.columns (columns_same o L m d y.row x.row rows y.place b columns))
+      let d_same = vector_degree_unique (suc m) x.row y.row d e (λ i l. sym (rows i l)) x.degree y.degree in
+      let columns : FrameColumns o m d y.row y.place b = subst (λ (t : ℕ). FrameColumns o m t y.row y.place b) (sym d_same) y.columns in
+      (g_same, d_same, Frames.frame_columns_unique o F m d x.row x.degree x.place y.place c b x.columns (columns_same o L m d y.row x.row rows y.place b columns))
 
   -- the row times h is the gcd just when the divided row times h is 1
   pub one_of_gcd : (n : ℕ) (a : ℕ → ℕ → M) (g : ℕ → M) (r h : ℕ → ℕ → M) → MonicGcd o n a g → DividedRow o n a g r

@@ -145,11 +145,11 @@ module _ {M : Type 0} (o : RingOps M) (F : IsField o) (n : ℕ) (positive : zero
             let j = c.0 in
             let e = c.2 in
             let t = shift o e (constant o (at n h Q)) in
-            let t-polynomial = Bounds.polynomial_shift o L e (constant o (at n h Q)) (Bounds.polynomial_constant o L (at n h Q)) in
+            let t_polynomial = Bounds.polynomial_shift o L e (constant o (at n h Q)) (Bounds.polynomial_constant o L (at n h Q)) in
             let place = c.3 in
             let same : suc Q ≡ suc (p j) plus n * e = omega arith in
             let multiple : BelowPlace o n (suc Q) (λ i. t · u j i) = subst (λ (s : ℕ). BelowPlace o n s (λ i. t · u j i)) (sym same) (multiple_below (suc (p j)) e (at n h Q) (u j) (u_below j c.1)) in
-            step j c.1 t t-polynomial h
-            (rest (λ i. h i + (- (t · u j i))) (Z-step j c.1 t t-polynomial h z)
+            step j c.1 t t_polynomial h
+            (rest (λ i. h i + (- (t · u j i))) (Z-step j c.1 t t_polynomial h z)
             (Places.below_place_top n positive o Q (λ i. h i + (- (t · u j i))) (below_place_difference (suc Q) h (λ i. t · u j i) b multiple)
             (ap (λ s. at n h Q ⊕ minus s) (multiple_leading (p j) e Q (at n h Q) (u j) place (u_leading j c.1)) ∙ L.sum_negative (at n h Q))))

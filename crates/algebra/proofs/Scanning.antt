@@ -48,16 +48,16 @@ rising_more k f g x rising less same here i j h l =
 -- of two rising lists of numbers, the first among the second, the first is nowhere behind
 rising_nowhere_behind : (b m : ℕ) (f g : ℕ → ℕ) → ((i j : ℕ) → i < j → j < b → f i < f j) → ((i j : ℕ) → i < j → j < m → g i < g j)
     → ((j : ℕ) → j < b → (k : ℕ) × (k < m) × (g k ≡ f j)) → (j k : ℕ) → j < b → k < m → g k ≡ f j → j ≤ k
-rising_nowhere_behind b m f g rising-f rising-g among zero k l a e = zero-le
-rising_nowhere_behind b m f g rising-f rising-g among (suc j) k l a e =
+rising_nowhere_behind b m f g rising_f rising_g among zero k l a e = zero-le
+rising_nowhere_behind b m f g rising_f rising_g among (suc j) k l a e =
     let x = among j (omega arith) in
-    go x.0 x.1 x.2 (rising_nowhere_behind b m f g rising-f rising-g among j x.0 (omega arith) x.1 x.2) (rising-f j (suc j) (le_refl (suc j)) l)
+    go x.0 x.1 x.2 (rising_nowhere_behind b m f g rising_f rising_g among j x.0 (omega arith) x.1 x.2) (rising_f j (suc j) (le_refl (suc j)) l)
   where
     go : (i : ℕ) → i < m → g i ≡ f j → j ≤ i → f j < f (suc j) → suc j ≤ k
     go i w same low less = elim (dec_lt i k) [
       | yes h ↦ omega arith
       | no h ↦ elim (dec_lt k i) [
-        | yes h' ↦ absurd (let z = rising-g k i h' w in omega arith)
+        | yes h' ↦ absurd (let z = rising_g k i h' w in omega arith)
         | no h' ↦ absurd (let z : i ≡ k = omega arith in let y = ap g z in omega arith)
       ]
     ]
@@ -65,10 +65,10 @@ rising_nowhere_behind b m f g rising-f rising-g among (suc j) k l a e =
 -- so it is no longer
 rising_no_longer : (b m : ℕ) (f g : ℕ → ℕ) → ((i j : ℕ) → i < j → j < b → f i < f j) → ((i j : ℕ) → i < j → j < m → g i < g j)
     → ((j : ℕ) → j < b → (k : ℕ) × (k < m) × (g k ≡ f j)) → b ≤ m
-rising_no_longer zero m f g rising-f rising-g among = zero-le
-rising_no_longer (suc b) m f g rising-f rising-g among =
+rising_no_longer zero m f g rising_f rising_g among = zero-le
+rising_no_longer (suc b) m f g rising_f rising_g among =
     let x = among b (le_refl (suc b)) in
-    let low = rising_nowhere_behind (suc b) m f g rising-f rising-g among b x.0 (le_refl (suc b)) x.1 x.2 in
+    let low = rising_nowhere_behind (suc b) m f g rising_f rising_g among b x.0 (le_refl (suc b)) x.1 x.2 in
     let lt = x.1 in
     omega arith
 
@@ -182,7 +182,7 @@ module _ {M : Type 0} (o : RingOps M) (F : IsField o) (m d : ℕ) (r : ℕ → �
   }
 
   module _ (q rank : ℕ) (P : ℕ → ℕ) (b : ℕ) (B : ℕ → ℕ) (E : ℕ → ℕ → M) (found : ℕ → Bool) (s : Scanned o n d r q rank P b B E found) where
-    -- the list of a non_pivotal place is a sum of multiples of the lists at the pivotal places found
+    -- the list of a non-pivotal place is a sum of multiples of the lists at the pivotal places found
     pub spanned_by_found : NonPivotal o n d r q → Spanned o All rank width (lists P) (list q)
     spanned_by_found = Spans.spanned_trans o L All members rank q width (lists P) list (list q) s.spanned
 
@@ -195,7 +195,7 @@ module _ {M : Type 0} (o : RingOps M) (F : IsField o) (m d : ℕ) (r : ℕ → �
         → ((t : ℕ) → t < rank → P' t ≡ P t) → ((j : ℕ) → j < b → B' j ≡ B j)
         → ((j t : ℕ) → j < b → t < width → E' j t ≡ E j t) → ((i : ℕ) → i < n → found' i ≡ found i)
         → Scanned o n d r q rank P' b B' E' found'
-    scanned_same P' B' E' found' P-same B-same E-same found-same = record {
+    scanned_same P' B' E' found' P-same B-same E-same found_same = record {
       pivotal = λ t l. subst (Pivotal o n d r) (sym (P-same t l)) (s.pivotal t l);
       pivots_walked = λ t l. let e = P-same t l in let f = s.pivots_walked t l in omega arith;
       pivots_rising = λ i t h l. let e = P-same i (omega arith) in let f = P-same t l in let g = s.pivots_rising i t h l in omega arith;
@@ -212,9 +212,9 @@ module _ {M : Type 0} (o : RingOps M) (F : IsField o) (m d : ℕ) (r : ℕ → �
           ap (λ z. list z k) (B-same j l)
           ∙ s.made j k l a
           ∙ Sums.total_ext o L rank (λ t. o.product (E j t) (list (P t) k)) (λ t. o.product (E' j t) (list (P' t) k)) (λ t c. let w = rank_at_most in ap₂ (λ y z. o.product y (list z k)) (sym (E-same j t l (omega arith))) (sym (P-same t c)));
-      earlier = λ j t l a no-earlier. E-same j t l a ∙ s.earlier j t l a (λ c e. no-earlier c (let f = P-same t c in let g = B-same j l in omega arith));
-      has = λ i l e. let x = s.has i l (sym (found-same i l) ∙ e) in (x.0, x.1, ap (λ z. z % n) (B-same x.0 x.1) ∙ x.2);
-      has_not = λ i l e x. s.has_not i l (sym (found-same i l) ∙ e) (x.0, x.1, ap (λ z. z % n) (sym (B-same x.0 x.1)) ∙ x.2);
+      earlier = λ j t l a no_earlier. E-same j t l a ∙ s.earlier j t l a (λ c e. no_earlier c (let f = P-same t c in let g = B-same j l in omega arith));
+      has = λ i l e. let x = s.has i l (sym (found_same i l) ∙ e) in (x.0, x.1, ap (λ z. z % n) (B-same x.0 x.1) ∙ x.2);
+      has_not = λ i l e x. s.has_not i l (sym (found_same i l) ∙ e) (x.0, x.1, ap (λ z. z % n) (sym (B-same x.0 x.1)) ∙ x.2);
     }
 
     -- a place whose class has a basic place
@@ -227,7 +227,7 @@ module _ {M : Type 0} (o : RingOps M) (F : IsField o) (m d : ℕ) (r : ℕ → �
         let k = p / n in
         let same_class = j.2 in
         let whole = div-add-mod q n in
-        let whole-p = div-add-mod p n in
+        let whole_p = div-add-mod p n in
         let same : n * k plus q % n ≡ p = omega arith in
         let le : k ≤ q / n = Reduction.power_le o F n positive k (q / n) (q % n) (mod-lt q positive) (omega arith) in
         let non_pivotal : NonPivotal o n d r q = subst (NonPivotal o n d r) whole (Classes.nonpivotal_above o F n positive d r v (q % n) k (q / n) (mod-lt q positive) le (Classes.power_within o F n positive d r v p basic.within) (subst (NonPivotal o n d r) (sym same) basic.non_pivotal)) in
@@ -249,7 +249,7 @@ module _ {M : Type 0} (o : RingOps M) (F : IsField o) (m d : ℕ) (r : ℕ → �
         not_basic : (p k : ℕ) → k ≤ q / n → n * k plus q % n ≡ p → p < q → NonPivotal o n d r p → Basic o n d r q → ⊥
         not_basic p k le same walked non_pivotal c =
             let whole = div-add-mod q n in
-            let k-less : k < q / n = elim (eq-or-lt_of_le le) [ inl e ↦ absurd (let f = ap (λ t. n * t) e in omega arith) | inr e ↦ e ] in
+            let k_less : k < q / n = elim (eq-or-lt_of_le le) [ inl e ↦ absurd (let f = ap (λ t. n * t) e in omega arith) | inr e ↦ e ] in
             let e = q / n - suc k in
             let split : q / n ≡ k plus suc e = omega arith in
             let powers = ap (λ t. n * t) split ∙ mul-add n k (suc e) in
@@ -277,7 +277,7 @@ module _ {M : Type 0} (o : RingOps M) (F : IsField o) (m d : ℕ) (r : ℕ → �
               (Sums.total_ext o L rank (λ t. o.product (E j t) (list (P t) k)) (λ t. o.product (E j t) (list (P' t) k)) (λ t c. ap (λ x. o.product (E j t) (list x k)) (sym (same t c))))
               (sym (ap (λ x. o.product x (list (P' rank) k)) (s.earlier j rank l room (λ c. absurd (omega arith))) ∙ Sums.zero_product o L (list (P' rank) k)))
               ∙ sym (Sums.total_last o L rank (λ t. o.product (E j t) (list (P' t) k)));
-          earlier = λ j t l a no-earlier. s.earlier j t l a (λ c e. no-earlier (omega arith) (let f = same t c in omega arith));
+          earlier = λ j t l a no_earlier. s.earlier j t l a (λ c e. no_earlier (omega arith) (let f = same t c in omega arith));
           has = s.has;
           has_not = s.has_not;
         }
@@ -297,7 +297,7 @@ module _ {M : Type 0} (o : RingOps M) (F : IsField o) (m d : ℕ) (r : ℕ → �
         itself : (t : ℕ) → t < suc rank → Spanned o All (suc rank) width (lists P') (list (P' t))
         itself = Exchange.spanned_self o L All members (suc rank) width (lists P')
 
-    -- before q, a non_pivotal place in the class of q has been found to have a basic place in its class
+    -- before q, a non-pivotal place in the class of q has been found to have a basic place in its class
     class_found : (p e : ℕ) → q < places → NonPivotal o n d r p → q ≡ p plus n * suc e → InClass n b B (q % n)
     class_found p e l non_pivotal further = go (ℕ_discrete (q % n) cl.free)
       where
@@ -343,7 +343,7 @@ module _ {M : Type 0} (o : RingOps M) (F : IsField o) (m d : ℕ) (r : ℕ → �
         → q < places → found (q % n) ≡ false
         → ((k : ℕ) → k < width → list q k ≡ total o rank (λ t. o.product (E' b t) (list (P t) k)))
         → Scanned o n d r (suc q) rank P (suc b) B' E' found'
-    scanned_basic B' E' found' same here E-same E-zero found-same found_Here within unknown multiples = record {
+    scanned_basic B' E' found' same here E-same E-zero found_same found_Here within unknown multiples = record {
       pivotal = s.pivotal;
       pivots_walked = λ t l. let e = s.pivots_walked t l in omega arith;
       pivots_rising = s.pivots_rising;
@@ -358,8 +358,8 @@ module _ {M : Type 0} (o : RingOps M) (F : IsField o) (m d : ℕ) (r : ℕ → �
           (λ j c. ap (λ x. list x k) (same j c) ∙ s.made j k c a ∙ Sums.total_ext o L rank (λ t. o.product (E j t) (list (P t) k)) (λ t. o.product (E' j t) (list (P t) k)) (λ t e. let w = rank_at_most in ap (λ x. o.product x (list (P t) k)) (sym (E-same j t c (omega arith)))))
           (ap (λ x. list x k) here ∙ multiples k a) j l;
       earlier = λ j t l a. up_to (λ j. (t < rank → P t < B' j → ⊥) → E' j t ≡ o.zero) b
-          (λ j c no-earlier. E-same j t c a ∙ s.earlier j t c a (λ e f. no-earlier e (let g = same j c in omega arith)))
-          (λ no-earlier. elim (dec_lt t rank) [ yes e ↦ absurd (no-earlier e (let f = s.pivots_walked t e in omega arith)) | no e ↦ E-zero t (omega arith) a ]) j l;
+          (λ j c no_earlier. E-same j t c a ∙ s.earlier j t c a (λ e f. no_earlier e (let g = same j c in omega arith)))
+          (λ no_earlier. elim (dec_lt t rank) [ yes e ↦ absurd (no_earlier e (let f = s.pivots_walked t e in omega arith)) | no e ↦ E-zero t (omega arith) a ]) j l;
       has = has;
       has_not = λ i l e x. has_not i l e (ℕ_discrete i (q % n)) x;
     }
@@ -375,12 +375,12 @@ module _ {M : Type 0} (o : RingOps M) (F : IsField o) (m d : ℕ) (r : ℕ → �
           where
             go : Dec (i ≡ q % n) → InClass n (suc b) B' i
             go (yes f) = (b, le_refl (suc b), ap (λ t. t % n) here ∙ sym f)
-            go (no f) = let x = s.has i l (sym (found-same i l f) ∙ e) in let lt = x.1 in (x.0, omega arith, ap (λ t. t % n) (same x.0 x.1) ∙ x.2)
+            go (no f) = let x = s.has i l (sym (found_same i l f) ∙ e) in let lt = x.1 in (x.0, omega arith, ap (λ t. t % n) (same x.0 x.1) ∙ x.2)
 
         has_not : (i : ℕ) → i < n → found' i ≡ false → Dec (i ≡ q % n) → InClass n (suc b) B' i → ⊥
         has_not i l e (yes f) x = true≢false (sym found_Here ∙ ap found' (sym f) ∙ e)
         has_not i l e (no f) x = up_to (λ j. B' j % n ≡ i → ⊥) b
-            (λ j a y. s.has_not i l (sym (found-same i l f) ∙ e) (j, a, ap (λ t. t % n) (sym (same j a)) ∙ y))
+            (λ j a y. s.has_not i l (sym (found_same i l f) ∙ e) (j, a, ap (λ t. t % n) (sym (same j a)) ∙ y))
             (λ y. f (sym y ∙ ap (λ t. t % n) here)) x.0 x.1 x.2
 
     -- one more pivotal place leaves them at most 2d + 1

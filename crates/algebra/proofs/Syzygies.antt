@@ -1,5 +1,5 @@
 -- Syzygies of a row by their leading places. Main results: vector_of_relation, syzygy_of_nonpivotal and nonpivotal_of_syzygy (a place is
--- non_pivotal when a syzygy has it as leading place), one_of_two_classes (one of two classes has a syzygy with its leading place in it),
+-- non-pivotal when a syzygy has it as leading place), one_of_two_classes (one of two classes has a syzygy with its leading place in it),
 -- not_every_class.
 use mathlib.Core.Path.{◌≡◌, refl, sym, ap, ap₂, ◌∙◌, fun_ext}
 use mathlib.Core.Logic.{◌⊎◌, inl, inr}
@@ -56,7 +56,7 @@ module _ {M : Type 0} (o : RingOps M) (F : IsField o) (n : ℕ) (positive : zero
   pub dot_below : (K N P : ℕ) (r h : ℕ → ℕ → M) → K plus N ≤ suc P → Bounded o n K r → Bounded o n N h → Below o P (dot (series o) n r h)
   dot_below K N P r h l a b = B.below_total o L n P (λ i. r i · h i) (λ i e. B.below_product o L K N P (r i) (h i) l (a i e) (b i e))
 
-  module _ (d : ℕ) (r : ℕ → ℕ → M) (r-bounded : Bounded o n (suc d) r) where
+  module _ (d : ℕ) (r : ℕ → ℕ → M) (r_bounded : Bounded o n (suc d) r) where
     -- a combination of the lists below Q, as a vector of degree at most d
     pub vector_of_relation : (Q : ℕ) (x f : ℕ → M) → Q ≤ n * suc d → Below o (suc (d plus d)) f
         → ((k : ℕ) → k < suc (d plus d) → total o Q (λ q. x q ⊙ place_list o n r q k) ≡ f k)
@@ -69,7 +69,7 @@ module _ {M : Type 0} (o : RingOps M) (F : IsField o) (n : ℕ) (positive : zero
         coefficients : (k : ℕ) → dot (series o) n r (spread n (Rows.cut o Q x)) k ≡ f k
         coefficients k = elim (dec_lt k (suc (d plus d))) [
           | yes h ↦ Places.dot_spread o L n Q r x k positive ∙ e k h
-          | no h ↦ dot_below (suc d) (suc d) (suc (d plus d)) r (spread n (Rows.cut o Q x)) (omega arith) r-bounded bounded k (omega arith) ∙ sym (b k (omega arith))
+          | no h ↦ dot_below (suc d) (suc d) (suc (d plus d)) r (spread n (Rows.cut o Q x)) (omega arith) r_bounded bounded k (omega arith) ∙ sym (b k (omega arith))
         ]
 
     -- the vector with one at q and the negated factors before it
@@ -128,7 +128,7 @@ module _ {M : Type 0} (o : RingOps M) (F : IsField o) (n : ℕ) (positive : zero
       high j zero b l = ap (λ (t : ℕ → M). t 0) (Rows.slot_off i 𝟙 𝟘 j (λ e. omega arith))
       high j (suc k) b l = Rows.slot_both (λ (t : ℕ → M). t (suc k) ≡ O) i 𝟙 𝟘 j refl refl
 
-  module _ (d : ℕ) (r : ℕ → ℕ → M) (r-bounded : Bounded o n (suc d) r) where
+  module _ (d : ℕ) (r : ℕ → ℕ → M) (r_bounded : Bounded o n (suc d) r) where
     -- r_j e_i - r_i e_j
     abbrev cross : ℕ → ℕ → ℕ → ℕ → M
     cross i j l = Rows.slot i (r j) (λ a. 𝟘) l + Rows.slot j (- r i) (λ a. 𝟘) l
@@ -142,8 +142,8 @@ module _ {M : Type 0} (o : RingOps M) (F : IsField o) (n : ℕ) (positive : zero
     cross_bounded : (i j : ℕ) → i < n → j < n → Bounded o n (suc d) (cross i j)
     cross_bounded i j a b l c =
         B.below_sum o L (suc d) (Rows.slot i (r j) (λ e. 𝟘) l) (Rows.slot j (- r i) (λ e. 𝟘) l)
-        (Rows.slot_both (Below o (suc d)) i (r j) 𝟘 l (r-bounded j b) (B.below_zero o L (suc d)))
-        (Rows.slot_both (Below o (suc d)) j (- r i) 𝟘 l (B.below_negative o L (suc d) (r i) (r-bounded i a)) (B.below_zero o L (suc d)))
+        (Rows.slot_both (Below o (suc d)) i (r j) 𝟘 l (r_bounded j b) (B.below_zero o L (suc d)))
+        (Rows.slot_both (Below o (suc d)) j (- r i) 𝟘 l (B.below_negative o L (suc d) (r i) (r_bounded i a)) (B.below_zero o L (suc d)))
 
     -- of two classes one has a syzygy of degree at most d
     pub one_of_two_classes : (i j : ℕ) → i < n → j < n → (i ≡ j → ⊥) → (q : ℕ) × (q < n * suc d) × SyzygyAt o n r q × ((q % n ≡ i) ⊎ (q % n ≡ j))
@@ -160,10 +160,10 @@ module _ {M : Type 0} (o : RingOps M) (F : IsField o) (n : ℕ) (positive : zero
         go : AllZero o n (cross i j) ⊎ ((q : ℕ) × (q < n * suc d) × (at n (cross i j) q ≡ O → ⊥) × BelowPlace o n (suc q) (cross i j))
             → (q : ℕ) × (q < n * suc d) × SyzygyAt o n r q × ((q % n ≡ i) ⊎ (q % n ≡ j))
         go (inl z) =
-            let zero-i : r i ≡ 𝟘 = sym (Sums.negative_negative (series o) SL (r i)) ∙ ap -◌ (sym at_j ∙ z j b) ∙ Sums.negative_zero (series o) SL in
+            let zero_i : r i ≡ 𝟘 = sym (Sums.negative_negative (series o) SL (r i)) ∙ ap -◌ (sym at_j ∙ z j b) ∙ Sums.negative_zero (series o) SL in
             let s = mul-suc n d in
             let t = mul-zero n in
-            (n * 0 plus i, omega arith, unit_syzygy r i a zero-i, inl (Places.place_mod n 0 i a))
+            (n * 0 plus i, omega arith, unit_syzygy r i a zero_i, inl (Places.place_mod n 0 i a))
         go (inr (q, l, x, c)) = (q, l, scaled_syzygy r (cross i j) q (cross_syzygy i j a b) c x, class q x (ℕ_discrete (q % n) i) (ℕ_discrete (q % n) j))
 
     -- not every class has a syzygy with its leading place in it
@@ -232,4 +232,4 @@ module _ {M : Type 0} (o : RingOps M) (F : IsField o) (n : ℕ) (positive : zero
         top_zero : dot (series o) n r h (T plus d) ≡ O
         top_zero =
             ap (λ (t : ℕ → M). t (T plus d)) same
-            ∙ dot_below (suc d) T (T plus d) r reduced.remainder (omega arith) r-bounded (Places.bounded_of_below_place n positive o T T reduced.remainder (Places.le_times n T positive) reduced.below) (T plus d) (le_refl (T plus d))
+            ∙ dot_below (suc d) T (T plus d) r reduced.remainder (omega arith) r_bounded (Places.bounded_of_below_place n positive o T T reduced.remainder (Places.le_times n T positive) reduced.below) (T plus d) (le_refl (T plus d))

@@ -139,9 +139,9 @@ module _ {M : Type 0} (o : RingOps M) (F : IsField o) (m d : ℕ) (r : ℕ → �
   nonzero : (j : ℕ) → j < m → AllZero o n (w j) → ⊥
   nonzero j l z =
       let x = basis (λ i. 𝟘) (λ i a. B.polynomial_zero o L) zero_syzygy in
-      let by-unit = x.unique (Rows.slot j 𝟙 (λ i. 𝟘)) (λ t b. Rows.slot_both (Polynomial o) j 𝟙 𝟘 t (B.polynomial_constant o L I) (B.polynomial_zero o L)) (λ i a. sym (Spans.total_slot (series o) SL m j 𝟙 (λ t. w t i) l ∙ ap (λ t. 𝟙 · t) (z i a) ∙ Sums.product_zero (series o) SL 𝟙)) j l in
+      let by_unit = x.unique (Rows.slot j 𝟙 (λ i. 𝟘)) (λ t b. Rows.slot_both (Polynomial o) j 𝟙 𝟘 t (B.polynomial_constant o L I) (B.polynomial_zero o L)) (λ i a. sym (Spans.total_slot (series o) SL m j 𝟙 (λ t. w t i) l ∙ ap (λ t. 𝟙 · t) (z i a) ∙ Sums.product_zero (series o) SL 𝟙)) j l in
       let by_zero = x.unique (λ t. 𝟘) (λ t b. B.polynomial_zero o L) (λ i a. sym (Sums.total_zero (series o) SL m (λ t. 𝟘 · w t i) (λ t b. Sums.zero_product (series o) SL (w t i)))) j l in
-      D.one_nonzero o F (sym (Rows.slot_at j 𝟙 (λ i. 𝟘)) ∙ by-unit ∙ sym by_zero)
+      D.one_nonzero o F (sym (Rows.slot_at j 𝟙 (λ i. 𝟘)) ∙ by_unit ∙ sym by_zero)
 
   degrees_chosen : (δ : ℕ → ℕ) × ((j : ℕ) → j < m → VectorDegree o n (w j) (δ j))
   degrees_chosen = Rows.choose {A = ℕ} (λ j e. VectorDegree o n (w j) e) 0 m (λ j l. degree j l (R.vector_zero_or_degree o F n (B.common_bound o L n (w j) (w_polynomials j l)).0 (w j) (B.common_bound o L n (w j) (w_polynomials j l)).1))
@@ -215,7 +215,7 @@ module _ {M : Type 0} (o : RingOps M) (F : IsField o) (m d : ℕ) (r : ℕ → �
   not_smaller j l h = go (Naturals.prefix m (δ j) k (λ i b. Optimal.degrees_rise o F m d r v p c f i (suc i) (le_refl (suc i)) b))
     where
       go : (t : ℕ) × (t ≤ m) × ((i : ℕ) → i < t → k i ≤ δ j) × ((i : ℕ) → t ≤ i → i < m → δ j < k i) → ⊥
-      go (t, t-le, low, high) = x.not_all_zero.nonzero (all_zero x.not_all_zero.place x.not_all_zero.within)
+      go (t, t_le, low, high) = x.not_all_zero.nonzero (all_zero x.not_all_zero.place x.not_all_zero.within)
         where
           behind : t ≤ j
           behind = elim (dec_lt j t) [ yes b ↦ absurd (let e = low j b in omega arith) | no b ↦ omega arith ]
@@ -228,7 +228,7 @@ module _ {M : Type 0} (o : RingOps M) (F : IsField o) (m d : ℕ) (r : ℕ → �
           family = Rows.slot t (lead j) lead
 
           w_spanned : (i : ℕ) → i < m → δ i ≤ δ j → Spanned o All t n (λ l a. u l a (k l)) (lead i)
-          w_spanned i b e = Optimal.top_spanned o F m d r v p c f (δ i) t t-le (λ a y z. let q = high a y z in omega arith) (w i) (w_polynomials i b) (syzygies i b) (w_bounded i b)
+          w_spanned i b e = Optimal.top_spanned o F m d r v p c f (δ i) t t_le (λ a y z. let q = high a y z in omega arith) (w i) (w_polynomials i b) (syzygies i b) (w_bounded i b)
 
           family_spanned : (i : ℕ) → i < suc t → Spanned o All t n (λ l a. u l a (k l)) (family i)
           family_spanned i b = elim (eq-or-lt_of_le (le_of_suc-le-suc b)) [
@@ -255,7 +255,7 @@ module _ {M : Type 0} (o : RingOps M) (F : IsField o) (m d : ℕ) (r : ℕ → �
               Sums.total_ext o L m (λ i. X i ⊙ lead i a) (λ i. Rows.cut o t x.factor i ⊙ lead i a ⊕ Rows.slot j (x.factor t) (λ b. O) i ⊙ lead i a) (λ i b. Sums.sum_product o L (Rows.cut o t x.factor i) (Rows.slot j (x.factor t) (λ b. O) i) (lead i a))
               ∙ Sums.total_sum o L m (λ i. Rows.cut o t x.factor i ⊙ lead i a) (λ i. Rows.slot j (x.factor t) (λ b. O) i ⊙ lead i a)
               ∙ ap₂ ◌⊕◌
-              (Spans.total_truncate o L t m (λ i. Rows.cut o t x.factor i ⊙ lead i a) t-le (λ i b e. ap (λ z. z ⊙ lead i a) (Rows.cut_high o t x.factor i b) ∙ Sums.zero_product o L (lead i a))
+              (Spans.total_truncate o L t m (λ i. Rows.cut o t x.factor i ⊙ lead i a) t_le (λ i b e. ap (λ z. z ⊙ lead i a) (Rows.cut_high o t x.factor i b) ∙ Sums.zero_product o L (lead i a))
               ∙ Sums.total_ext o L t (λ i. Rows.cut o t x.factor i ⊙ lead i a) (λ i. x.factor i ⊙ lead i a) (λ i b. ap (λ z. z ⊙ lead i a) (Rows.cut_low o t x.factor i b)))
               (Spans.total_slot o L m j (x.factor t) (λ i. lead i a) l)
 

@@ -123,19 +123,19 @@ module _ {M : Type 0} (o : RingOps M) (F : IsField o) (m d : ℕ) (r : ℕ → �
     where
       go : (t : ℕ) × (t ≤ m) × ((j : ℕ) → j < t → δ j ≤ N) × ((j : ℕ) → t ≤ j → j < m → N < δ j)
           → (y : ℕ → M) × ((j : ℕ) → j < m → N < δ j → y j ≡ O) × ((i : ℕ) → i < n → h i N ≡ total o m (λ j. y j ⊙ w j i (δ j)))
-      go (t, t-le, low, high) = (Rows.cut o t spanned.factor, off, is)
+      go (t, t_le, low, high) = (Rows.cut o t spanned.factor, off, is)
         where
           higher : (K l : ℕ) → K ≤ N → t ≤ l → l < m → K < k l
           higher K l a b c = let x = high l b c in let e = same_degrees l c in omega arith
 
           w_spanned : (j : ℕ) → j < t → Spanned o All t n (λ l i. u l i (k l)) (λ i. w j i (δ j))
-          w_spanned j a = Optimal.top_spanned o F m d r v p c f (δ j) t t-le (λ l b e. higher (δ j) l (low j a) b e) (w j) (w_polynomials j (omega arith)) (syzygies j (omega arith)) (w_bounded j (omega arith))
+          w_spanned j a = Optimal.top_spanned o F m d r v p c f (δ j) t t_le (λ l b e. higher (δ j) l (low j a) b e) (w j) (w_polynomials j (omega arith)) (syzygies j (omega arith)) (w_bounded j (omega arith))
 
           spanned : Spanned o All t n (λ j i. w j i (δ j)) (λ i. h i N)
           spanned =
               Spans.spanned_trans o L All members t t n (λ j i. w j i (δ j)) (λ l i. u l i (k l)) (λ i. h i N)
-              (E.spanned_of_independent_members o F t n (λ l i. u l i (k l)) (λ j i. w j i (δ j)) (Spans.independent_prefix o L All members t m n (λ j i. w j i (δ j)) t-le independent) w_spanned)
-              (Optimal.top_spanned o F m d r v p c f N t t-le (λ l a e. higher N l (le_refl N) a e) h q s b)
+              (E.spanned_of_independent_members o F t n (λ l i. u l i (k l)) (λ j i. w j i (δ j)) (Spans.independent_prefix o L All members t m n (λ j i. w j i (δ j)) t_le independent) w_spanned)
+              (Optimal.top_spanned o F m d r v p c f N t t_le (λ l a e. higher N l (le_refl N) a e) h q s b)
 
           off : (j : ℕ) → j < m → N < δ j → Rows.cut o t spanned.factor j ≡ O
           off j a e = elim (dec_lt j t) [ yes x ↦ absurd (let y = low j x in omega arith) | no x ↦ Rows.cut_high o t spanned.factor j (omega arith) ]
@@ -144,7 +144,7 @@ module _ {M : Type 0} (o : RingOps M) (F : IsField o) (m d : ℕ) (r : ℕ → �
           is i a =
               spanned.is i a
               ∙ Sums.total_ext o L t (λ j. spanned.factor j ⊙ w j i (δ j)) (λ j. Rows.cut o t spanned.factor j ⊙ w j i (δ j)) (λ j e. ap (λ z. z ⊙ w j i (δ j)) (sym (Rows.cut_low o t spanned.factor j e)))
-              ∙ sym (Spans.total_truncate o L t m (λ j. Rows.cut o t spanned.factor j ⊙ w j i (δ j)) t-le (λ j e x. ap (λ z. z ⊙ w j i (δ j)) (Rows.cut_high o t spanned.factor j e) ∙ Sums.zero_product o L (w j i (δ j))))
+              ∙ sym (Spans.total_truncate o L t m (λ j. Rows.cut o t spanned.factor j ⊙ w j i (δ j)) t_le (λ j e x. ap (λ z. z ⊙ w j i (δ j)) (Rows.cut_high o t spanned.factor j e) ∙ Sums.zero_product o L (w j i (δ j))))
 
   -- every syzygy is a sum of polynomial multiples of the w
   generated : (N : ℕ) (h : ℕ → ℕ → M) → Bounded o n N h → Syzygy o n r h

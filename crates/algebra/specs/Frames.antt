@@ -5,7 +5,7 @@ use Rattle.algebra.specs.Series.{dot, series}
 use Rattle.algebra.specs.Divisors.{Bounded, MonicGcd, DividedRow, VectorDegree}
 use Rattle.algebra.specs.Places.{NonPivotal, BasicPlaces}
 
--- h has degree at most d and is zero at the non_pivotal places that are not excepted
+-- h has degree at most d and is zero at the non-pivotal places that are not excepted
 pub record ZeroOffPivotal {M : Type 0} (o : RingOps M) (n d : ℕ) (r : ℕ → ℕ → M) (excepted : ℕ → Type 0) (h : ℕ → ℕ → M) : Type 0 where
   pub bounded : Bounded o n (suc d) h
   pub zero_off : (i k : ℕ) → i < n → k < suc d → NonPivotal o n d r (n * k + i) → (excepted (n * k + i) → ⊥) → h i k ≡ o.zero

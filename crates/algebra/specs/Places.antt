@@ -1,4 +1,4 @@
--- The places of a row r of n polynomials of degree at most d: pivotal, non_pivotal and basic.
+-- The places of a row r of n polynomials of degree at most d: pivotal, non-pivotal and basic.
 use Rattle.std.specs.Prelude.{◌≡◌, ℕ, suc, ◌<◌, ◌+◌, ◌*◌, ◌/◌, ◌%◌}
 use Rattle.algebra.specs.Rings.{RingOps}
 use Rattle.algebra.specs.Series.{shift}
@@ -16,7 +16,7 @@ NonPivotal o n d r q = Spanned o All q (suc (d + d)) (place_list o n r) (place_l
 abbrev pub Pivotal : {M : Type 0} → RingOps M → ℕ → ℕ → (ℕ → ℕ → M) → ℕ → Type 0
 Pivotal o n d r q = NonPivotal o n d r q → ⊥
 
--- a non_pivotal place, of a power up to s^d, from which no smaller non_pivotal place differs by a multiple of n
+-- a non-pivotal place, of a power up to s^d, from which no smaller non-pivotal place differs by a multiple of n
 pub record Basic {M : Type 0} (o : RingOps M) (n d : ℕ) (r : ℕ → ℕ → M) (q : ℕ) : Type 0 where
   pub within : q < n * suc d
   pub non_pivotal : NonPivotal o n d r q

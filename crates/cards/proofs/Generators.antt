@@ -7,30 +7,30 @@ use Rattle.cards.specs.Overwriting.{over}
 use Rattle.cards.proofs.Overwriting.{set_over, over_append}
 use Rattle.cards.proofs.Terms.{length_records, length_terms}
 
-pub length_row_terms : {F : Type 0} (code_of_lem : F → ℕ) (row : List F) → length (terms 0 (map code_of_lem row)) ≤ length row
-length_row_terms code_of_lem row = let h = length_terms 0 (map code_of_lem row) in omega (arith, length-map row code_of_lem)
+pub length_row_terms : {F : Type 0} (code_of : F → ℕ) (row : List F) → length (terms 0 (map code_of row)) ≤ length row
+length_row_terms code_of row = let h = length_terms 0 (map code_of row) in omega (arith, length-map row code_of)
 
-module _ {F : Type 0} (code_of_lem : F → ℕ) (n : ℕ) (table : List F) where
+module _ {F : Type 0} (code_of : F → ℕ) (n : ℕ) (table : List F) where
   -- the generators from i on
   abbrev pub generators_from : ℕ → List (List Term)
-  generators_from i = generators (n - i) (map code_of_lem (drop (17 * i) table))
+  generators_from i = generators (n - i) (map code_of (drop (17 * i) table))
 
   -- the terms of generator i
   abbrev pub row_terms : ℕ → List Term
-  row_terms i = terms 0 (map code_of_lem (take 17 (drop (17 * i) table)))
+  row_terms i = terms 0 (map code_of (take 17 (drop (17 * i) table)))
 
-  pub from_first : generators_from 0 ≡ generators n (map code_of_lem table)
-  from_first = let z : n - 0 ≡ n = omega arith in ap (λ k. generators k (map code_of_lem table)) z
+  pub from_first : generators_from 0 ≡ generators n (map code_of table)
+  from_first = let z : n - 0 ≡ n = omega arith in ap (λ k. generators k (map code_of table)) z
 
   pub from_next : (i : ℕ) → i < n → generators_from i ≡ row_terms i ∷ generators_from (i + 1)
   from_next i h =
       let s : n - i ≡ suc (n - (i + 1)) = omega arith in
-      ap (λ k. generators k (map code_of_lem (drop (17 * i) table))) s
-      ∙ ap (λ l. terms 0 l ∷ generators (n - (i + 1)) (drop 17 (map code_of_lem (drop (17 * i) table)))) (take-map code_of_lem 17 (drop (17 * i) table))
-      ∙ ap (λ l. row_terms i ∷ generators (n - (i + 1)) l) (drop-map code_of_lem 17 (drop (17 * i) table) ∙ ap (map code_of_lem) (drop-drop 17 (17 * i) table ∙ (let m : 17 * i + 17 ≡ 17 * (i + 1) = omega arith in ap (λ k. drop k table) m)))
+      ap (λ k. generators k (map code_of (drop (17 * i) table))) s
+      ∙ ap (λ l. terms 0 l ∷ generators (n - (i + 1)) (drop 17 (map code_of (drop (17 * i) table)))) (take-map code_of 17 (drop (17 * i) table))
+      ∙ ap (λ l. row_terms i ∷ generators (n - (i + 1)) l) (drop-map code_of 17 (drop (17 * i) table) ∙ ap (map code_of) (drop-drop 17 (17 * i) table ∙ (let m : 17 * i + 17 ≡ 17 * (i + 1) = omega arith in ap (λ k. drop k table) m)))
 
   pub from_last : (i : ℕ) → n ≤ i → generators_from i ≡ []
-  from_last i h = let z : n - i ≡ 0 = omega arith in ap (λ k. generators k (map code_of_lem (drop (17 * i) table))) z
+  from_last i h = let z : n - i ≡ 0 = omega arith in ap (λ k. generators k (map code_of (drop (17 * i) table))) z
 
 -- one head, and the others after it
 pub heads_step : (k k' next count b : ℕ) (ts : List Term) (gs all : List (List Term)) (buffer : List ℕ)

@@ -21,29 +21,29 @@ length_terms k [] = omega arith
 length_terms k (zero ∷ cs) = let h = length_terms (suc k) cs in omega arith
 length_terms k (suc c ∷ cs) = let h = length_terms (suc k) cs in omega arith
 
-module _ {F : Type 0} (code_of_lem : F → ℕ) where
+module _ {F : Type 0} (code_of : F → ℕ) where
   -- the terms that stand from place i on
   abbrev pub terms_from : ℕ → List F → List Term
-  terms_from i xs = terms i (map code_of_lem (drop i xs))
+  terms_from i xs = terms i (map code_of (drop i xs))
 
-  from_next : (i : ℕ) (xs : List F) (x : F) (c : ℕ) → i < length xs → x ≡ get_or xs i x → c ≡ code_of_lem x → terms_from i xs ≡ terms i (c ∷ map code_of_lem (drop (i + 1) xs))
+  from_next : (i : ℕ) (xs : List F) (x : F) (c : ℕ) → i < length xs → x ≡ get_or xs i x → c ≡ code_of x → terms_from i xs ≡ terms i (c ∷ map code_of (drop (i + 1) xs))
   from_next i xs x c h is means =
-      ap (λ l. terms i (map code_of_lem l)) (drop_more xs i x h)
-      ∙ ap (λ y. terms i (y ∷ map code_of_lem (drop (i + 1) xs))) (ap code_of_lem (sym is) ∙ sym means)
+      ap (λ l. terms i (map code_of l)) (drop_more xs i x h)
+      ∙ ap (λ y. terms i (y ∷ map code_of (drop (i + 1) xs))) (ap code_of (sym is) ∙ sym means)
 
   -- past an element of code c
-  pub from_zero : (i : ℕ) (xs : List F) (x : F) (c : ℕ) → i < length xs → x ≡ get_or xs i x → c ≡ code_of_lem x → c ≡ 0 → terms_from i xs ≡ terms_from (i + 1) xs
+  pub from_zero : (i : ℕ) (xs : List F) (x : F) (c : ℕ) → i < length xs → x ≡ get_or xs i x → c ≡ code_of x → c ≡ 0 → terms_from i xs ≡ terms_from (i + 1) xs
   from_zero i xs x c h is means e =
-      from_next i xs x c h is means ∙ terms_zero i c (map code_of_lem (drop (i + 1) xs)) e
-      ∙ ap (λ k. terms k (map code_of_lem (drop (i + 1) xs))) (sym (add-one i))
+      from_next i xs x c h is means ∙ terms_zero i c (map code_of (drop (i + 1) xs)) e
+      ∙ ap (λ k. terms k (map code_of (drop (i + 1) xs))) (sym (add-one i))
 
-  pub from_nonzero : (i : ℕ) (xs : List F) (x : F) (c : ℕ) → i < length xs → x ≡ get_or xs i x → c ≡ code_of_lem x → (c ≡ 0 → ⊥) → terms_from i xs ≡ term i c ∷ terms_from (i + 1) xs
+  pub from_nonzero : (i : ℕ) (xs : List F) (x : F) (c : ℕ) → i < length xs → x ≡ get_or xs i x → c ≡ code_of x → (c ≡ 0 → ⊥) → terms_from i xs ≡ term i c ∷ terms_from (i + 1) xs
   from_nonzero i xs x c h is means n =
-      from_next i xs x c h is means ∙ terms_nonzero i c (map code_of_lem (drop (i + 1) xs)) n
-      ∙ ap (λ k. term i c ∷ terms k (map code_of_lem (drop (i + 1) xs))) (sym (add-one i))
+      from_next i xs x c h is means ∙ terms_nonzero i c (map code_of (drop (i + 1) xs)) n
+      ∙ ap (λ k. term i c ∷ terms k (map code_of (drop (i + 1) xs))) (sym (add-one i))
 
   pub from_all : (i : ℕ) (xs : List F) → length xs ≤ i → terms_from i xs ≡ []
-  from_all i xs h = ap (λ l. terms i (map code_of_lem l)) (drop_all i xs h)
+  from_all i xs h = ap (λ l. terms i (map code_of l)) (drop_all i xs h)
 
 pub length_records : (r : ℕ) (ts : List Term) → length (records r ts) ≡ 4 * length ts
 length_records r [] = refl

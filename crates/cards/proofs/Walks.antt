@@ -50,8 +50,8 @@ module _ (order : ℕ) (card : List ℕ) (floor : ℕ) where
   names place one most none =
       let start = record_start card place in
       let one_left = rest_yes (leb (byte card start) 16) _ _ none in
-      let two-left = rest_yes (leb floor (byte card start)) _ _ one_left in
-      let three-left = rest_yes (ltb (code_at card (start + 1)) order) _ _ two-left in
+      let two_left = rest_yes (leb floor (byte card start)) _ _ one_left in
+      let three_left = rest_yes (ltb (code_at card (start + 1)) order) _ _ two_left in
       record {
         from_one = one;
         to_m = most;
@@ -59,8 +59,8 @@ module _ (order : ℕ) (card : List ℕ) (floor : ℕ) where
         code = refl;
         low = leb-true (byte card start) 16 (first_yes (leb (byte card start) 16) _ _ none);
         above = leb-true floor (byte card start) (first_yes (leb floor (byte card start)) _ _ one_left);
-        below = ltb-true (code_at card (start + 1)) order (first_yes (ltb (code_at card (start + 1)) order) _ _ two-left);
-        nonzero = ltb-true 0 (code_at card (start + 1)) (first_yes (ltb 0 (code_at card (start + 1))) _ _ three-left);
+        below = ltb-true (code_at card (start + 1)) order (first_yes (ltb (code_at card (start + 1)) order) _ _ two_left);
+        nonzero = ltb-true 0 (code_at card (start + 1)) (first_yes (ltb 0 (code_at card (start + 1))) _ _ three_left);
       }
 
 power_code_same : (t : Term) (ts : List Term) → power_code (t ∷ ts) t.power ≡ t.code

@@ -48,15 +48,15 @@ module _ (order : ℕ) (card : List ℕ) (n : ℕ) (ns : byte card 1 ≡ n) wher
         written_chain (suc t.power) (record_start card place + 3) (suc r) ts rest (omega arith) (omega arith) next after sound.4,
       )
 
-  pub written_chains : (place r : ℕ) (gs : List (List Term)) (heads-rest records-rest : List ℕ) → 1 ≤ r → r + term_count gs ≤ suc (byte card 2)
-      → drop place card ≡ heads r gs ++ heads-rest → drop (3 + n + 4 * (r - 1)) card ≡ chains r gs ++ records-rest → AllSound order gs → Chains order card place gs
-  written_chains place r [] heads-rest records-rest one most hs cs sound = tt
-  written_chains place r (ts ∷ gs) heads-rest records-rest one most hs cs sound =
-      let split : drop (3 + n + 4 * (r - 1)) card ≡ records r ts ++ (chains (r + length ts) gs ++ records-rest) = cs ∙ append_assoc (records r ts) (chains (r + length ts) gs) records-rest in
+  pub written_chains : (place r : ℕ) (gs : List (List Term)) (heads_rest records_rest : List ℕ) → 1 ≤ r → r + term_count gs ≤ suc (byte card 2)
+      → drop place card ≡ heads r gs ++ heads_rest → drop (3 + n + 4 * (r - 1)) card ≡ chains r gs ++ records_rest → AllSound order gs → Chains order card place gs
+  written_chains place r [] heads_rest records_rest one most hs cs sound = tt
+  written_chains place r (ts ∷ gs) heads_rest records_rest one most hs cs sound =
+      let split : drop (3 + n + 4 * (r - 1)) card ≡ records r ts ++ (chains (r + length ts) gs ++ records_rest) = cs ∙ append_assoc (records r ts) (chains (r + length ts) gs) records_rest in
       let long = length_records r ts in
-      let further : drop (3 + n + 4 * (r + length ts - 1)) card ≡ chains (r + length ts) gs ++ records-rest =
-      drop_of card (records r ts ++ (chains (r + length ts) gs ++ records-rest)) (3 + n + 4 * (r - 1)) (length (records r ts) + 0) (3 + n + 4 * (r + length ts - 1)) split (omega arith)
-      ∙ drop-append-add (records r ts) (chains (r + length ts) gs ++ records-rest) 0 in (
-        written_chain 0 place r ts (chains (r + length ts) gs ++ records-rest) one (omega arith) (byte_of card (heads r (ts ∷ gs) ++ heads-rest) place 0 place hs (omega arith)) split sound.0,
-        written_chains (suc place) (r + length ts) gs heads-rest records-rest (omega arith) (omega arith) (drop_of card (heads r (ts ∷ gs) ++ heads-rest) place 1 (suc place) hs (omega arith)) further sound.1,
+      let further : drop (3 + n + 4 * (r + length ts - 1)) card ≡ chains (r + length ts) gs ++ records_rest =
+      drop_of card (records r ts ++ (chains (r + length ts) gs ++ records_rest)) (3 + n + 4 * (r - 1)) (length (records r ts) + 0) (3 + n + 4 * (r + length ts - 1)) split (omega arith)
+      ∙ drop-append-add (records r ts) (chains (r + length ts) gs ++ records_rest) 0 in (
+        written_chain 0 place r ts (chains (r + length ts) gs ++ records_rest) one (omega arith) (byte_of card (heads r (ts ∷ gs) ++ heads_rest) place 0 place hs (omega arith)) split sound.0,
+        written_chains (suc place) (r + length ts) gs heads_rest records_rest (omega arith) (omega arith) (drop_of card (heads r (ts ∷ gs) ++ heads_rest) place 1 (suc place) hs (omega arith)) further sound.1,
       )

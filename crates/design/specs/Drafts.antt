@@ -25,9 +25,9 @@ generator_place i power = 17 * i + power
 
 -- one element is written, of that code, and nothing else
 abbrev pub Writes : {F : Type 0} → (F → ℕ) → (before : List F) (place code : ℕ) (after : List F) → Type 0
-Writes {F} code_of_lem before place code after = (x : F) × (code_of_lem x ≡ code) × (after ≡ slice_set before place x)
+Writes {F} code_of before place code after = (x : F) × (code_of x ≡ code) × (after ≡ slice_set before place x)
 
 -- put: the first no is the refusal, and leaves the table as it was; else the element of the code stands at its place
-pub record Puts {F : Type 0} (code_of_lem : F → ℕ) (order n i power code : ℕ) (before : List F) (r : Result (Unit {0}) DesignFault) (after : List F) : Type 0 where
+pub record Puts {F : Type 0} (code_of : F → ℕ) (order n i power code : ℕ) (before : List F) (r : Result (Unit {0}) DesignFault) (after : List F) : Type 0 where
   pub answer : result_err r ≡ first_no (put_questions order n i power code (length before))
-  pub table : MatchResult r (λ _. Writes code_of_lem before (generator_place i power) code after) (λ _. after ≡ before)
+  pub table : MatchResult r (λ _. Writes code_of before (generator_place i power) code after) (λ _. after ≡ before)

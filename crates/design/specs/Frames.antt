@@ -33,14 +33,14 @@ abbrev pub frame_questions : (generators frame work : ℕ) → List (Question De
 frame_questions generators frame work = asks (generators == 136 && (frame == 1105 && work == 4521)) TableLength ∷ []
 
 -- granted: the frame table holds the frame of the generators, which is degree-optimal, the design keeps its numbers, and the work table is zero
-pub record Frames {F R : Type 0} (o : RingOps R) (member : F → R) (n : ℕ) (generators frame work frame-after work-after : List F) (count degree divisor columns : ℕ) : Type 0 where
+pub record Frames {F R : Type 0} (o : RingOps R) (member : F → R) (n : ℕ) (generators frame work frame_after work_after : List F) (count degree divisor columns : ℕ) : Type 0 where
   pub asked : first_no (frame_questions (length generators) (length frame) (length work)) ≡ None
   pub same_count : count ≡ n
-  pub holds : HoldsFrame o member n generators frame-after degree divisor columns
-  pub optimal : DegreeOptimal o (n - 1) (generator_in o member generators) (divisor_in o member frame-after) (column_in o member frame-after)
-  pub cleared : Cleared o member work-after
+  pub holds : HoldsFrame o member n generators frame_after degree divisor columns
+  pub optimal : DegreeOptimal o (n - 1) (generator_in o member generators) (divisor_in o member frame_after) (column_in o member frame_after)
+  pub cleared : Cleared o member work_after
 
 -- refused: by the lengths, with the work table as it was; or because every generator is zero, with the work table at zero
-pub data FrameRefused {F R : Type 0} (o : RingOps R) (member : F → R) (n : ℕ) (generators frame work work-after : List F) (f : DesignFault) : Type 0 where
-  by_length : first_no (frame_questions (length generators) (length frame) (length work)) ≡ Some f → work-after ≡ work → FrameRefused o member n generators frame work work-after f
-  by_zero : first_no (frame_questions (length generators) (length frame) (length work)) ≡ None → f ≡ NoneNonzero → AllZero o n (generator_in o member generators) → Cleared o member work-after → FrameRefused o member n generators frame work work-after f
+pub data FrameRefused {F R : Type 0} (o : RingOps R) (member : F → R) (n : ℕ) (generators frame work work_after : List F) (f : DesignFault) : Type 0 where
+  by_length : first_no (frame_questions (length generators) (length frame) (length work)) ≡ Some f → work_after ≡ work → FrameRefused o member n generators frame work work_after f
+  by_zero : first_no (frame_questions (length generators) (length frame) (length work)) ≡ None → f ≡ NoneNonzero → AllZero o n (generator_in o member generators) → Cleared o member work_after → FrameRefused o member n generators frame work work_after f

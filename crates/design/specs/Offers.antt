@@ -26,20 +26,20 @@ fault_of Leading = LeadingVector
 
 -- granted: the frame table holds the first n rows and columns of the offered table, the divisor, and zero elsewhere; the design keeps the numbers of the frame, which
 -- stands; and the work table is zero
-pub record Offers {F R : Type 0} (o : RingOps R) (member : F → R) (n : ℕ) (generators offered frame work frame-after work-after : List F) (count degree divisor columns : ℕ) : Type 0 where
+pub record Offers {F R : Type 0} (o : RingOps R) (member : F → R) (n : ℕ) (generators offered frame work frame_after work_after : List F) (count degree divisor columns : ℕ) : Type 0 where
   pub asked : first_no (offer_questions (length generators) (length offered) (length frame) (length work)) ≡ None
   pub same_count : count ≡ n
-  pub holds : HoldsOffer o member n generators offered frame-after degree divisor columns
-  pub stands : StandsFramed o member n generators frame-after degree divisor columns
-  pub cleared : Cleared o member work-after
+  pub holds : HoldsOffer o member n generators offered frame_after degree divisor columns
+  pub stands : StandsFramed o member n generators frame_after degree divisor columns
+  pub cleared : Cleared o member work_after
 
 -- refused: by the lengths, with the work table as it was; or by the first objection to the offered columns, with the work table at zero
-pub data OfferRefused {F R : Type 0} (o : RingOps R) (member : F → R) (n : ℕ) (generators offered frame work work-after : List F) (f : DesignFault) : Type 0 where
-  by_length : first_no (offer_questions (length generators) (length offered) (length frame) (length work)) ≡ Some f → work-after ≡ work
-      → OfferRefused o member n generators offered frame work work-after f
+pub data OfferRefused {F R : Type 0} (o : RingOps R) (member : F → R) (n : ℕ) (generators offered frame work work_after : List F) (f : DesignFault) : Type 0 where
+  by_length : first_no (offer_questions (length generators) (length offered) (length frame) (length work)) ≡ Some f → work_after ≡ work
+      → OfferRefused o member n generators offered frame work work_after f
   by_objection : first_no (offer_questions (length generators) (length offered) (length frame) (length work)) ≡ None → (x : Objection) → f ≡ fault_of x
-      → Objects o n (n - 1) (generator_in o member generators) (column_in o member offered) x → Cleared o member work-after
-      → OfferRefused o member n generators offered frame work work-after f
+      → Objects o n (n - 1) (generator_in o member generators) (column_in o member offered) x → Cleared o member work_after
+      → OfferRefused o member n generators offered frame work work_after f
 
 -- tables of the right lengths are granted exactly where the offered columns are degree-optimal for the generators
 abbrev pub GrantsExactly : {F R X E : Type 0} → RingOps R → (F → R) → (n : ℕ) (generators offered frame work : List F) → Result X E → Type 0

@@ -88,8 +88,8 @@ module _ {M : Type 0} (o : RingOps M) (L : RingLaws o) where
     -- a reduced column with a pivot is of no sum of multiples
     pub judged_pivotal : (O ≡ I → ⊥) → (c : ℕ → M) → ((r : ℕ) → rows ≤ r → c r ≡ O) → (q : ℕ) (i : M) → IsPivot o rows rank (reduced o e p rank c) q i → Spanned o All rank rows V c → ⊥
     judged_pivotal nontrivial c b q i pivot s =
-        let zero-there : reduced o e p rank c q ≡ O = ap (λ f. f q) (reduced_sum_of s.factor c s.is b) ∙ units_high rank s.factor q pivot.low in
-        nontrivial (sym (Sums.zero_product o L i) ∙ ap (λ y. y · i) (sym zero-there) ∙ pivot.inverse)
+        let zero_there : reduced o e p rank c q ≡ O = ap (λ f. f q) (reduced_sum_of s.factor c s.is b) ∙ units_high rank s.factor q pivot.low in
+        nontrivial (sym (Sums.zero_product o L i) ∙ ap (λ y. y · i) (sym zero_there) ∙ pivot.inverse)
 
   -- the steps e, p, and one more, made of the vector u and its pivot
   module _ (rows rank : ℕ) (e f : ℕ → ℕ → M) (p q : ℕ → ℕ) (same : (t : ℕ) → t < rank → f t ≡ e t) (rows_same : (t : ℕ) → t < rank → q t ≡ p t) (u : ℕ → M) (i : M) (pivot : IsPivot o rows rank u (q rank) i) (last : f rank ≡ write (q rank) i u) where

@@ -26,7 +26,7 @@ module _ {F M : Type 0} (o : RingOps M) (m : F → M) (L : RingLaws o) (rows : �
   }
 
   module _ (q rank : ℕ) (steps : List F) (pivots places : List ℕ) (matrix : List F) (X : Progress o m rows start q rank steps pivots places matrix)
-      (after : List F) (rows-after : List ℕ) (now : List F) (before : (k : ℕ) → k < rows * q → at o m now k ≡ at o m matrix k) (behind : (k : ℕ) → rows * q + rows ≤ k → at o m now k ≡ at o m matrix k) where
+      (after : List F) (rows_after : List ℕ) (now : List F) (before : (k : ℕ) → k < rows * q → at o m now k ≡ at o m matrix k) (behind : (k : ℕ) → rows * q + rows ≤ k → at o m now k ≡ at o m matrix k) where
     -- column q is as at the start
     column_new : (r : ℕ) → r < rows → column_at o m rows matrix q r ≡ W q r
     column_new r l = ap (λ c. c r) (front_ext o rows (λ r. at o m matrix (rows * q + r)) (λ r. at o m start (rows * q + r)) (λ r l. X.left (rows * q + r) (omega arith)))
@@ -37,7 +37,7 @@ module _ {F M : Type 0} (o : RingOps M) (m : F → M) (L : RingLaws o) (rows : �
     left_more : (k : ℕ) → rows * suc q ≤ k → at o m now k ≡ at o m start k
     left_more k h = let l : rows * q + rows ≤ k = omega (arith, mul-suc rows q) in behind k l ∙ X.left k (omega arith)
 
-    pub progress_more : (pivotal : Bool) → rank_after rank pivotal ≤ rows → rows ≤ length places → TakesNext o rows q rank (column_at o m rows steps) (entry_at pivots) places (column_at o m rows matrix q) (column_at o m rows after) (entry_at rows-after) (column_at o m rows now q) pivotal → Progress o m rows start (q + 1) (rank_after rank pivotal) after rows-after (places_after rank q places pivotal) now
+    pub progress_more : (pivotal : Bool) → rank_after rank pivotal ≤ rows → rows ≤ length places → TakesNext o rows q rank (column_at o m rows steps) (entry_at pivots) places (column_at o m rows matrix q) (column_at o m rows after) (entry_at rows_after) (column_at o m rows now q) pivotal → Progress o m rows start (q + 1) (rank_after rank pivotal) after rows_after (places_after rank q places pivotal) now
     progress_more true bound room T = rw (add-one q) (record {
       eliminated = T.eliminated W column_new X.eliminated;
       relations = E.relations_pivotal o L rows W (column_at o m rows matrix) (column_at o m rows now) q rank (entry_at places) X.eliminated.echelon columns_old X.relations (entry_at (set places rank q)) (place_old rank q places) (place_new rank q places (omega arith));

@@ -29,8 +29,8 @@ module _ {M : Type 0} (o : RingOps M) (F : IsField o) where
   infix 80 -◌
   -- f and g have the common divisors of g and the remainder of f by g
   pub same_common_step : (f g r : ℕ → M) (e : ℕ) → (d : Division o e f g) → d.remainder ≡ r → SameCommon o f g g r
-  same_common_step f g r e d r-is h = (
-    λ p. (subst (Divides o h) (sym d.is) (V.divides_sum o F h (g · d.quotient) d.remainder (V.divides_product o F h g d.quotient p.0 d.polynomial) (subst (Divides o h) (sym r-is) p.1)), p.0),
+  same_common_step f g r e d r_is h = (
+    λ p. (subst (Divides o h) (sym d.is) (V.divides_sum o F h (g · d.quotient) d.remainder (V.divides_product o F h g d.quotient p.0 d.polynomial) (subst (Divides o h) (sym r_is) p.1)), p.0),
     λ p. (p.1, subst (Divides o h) rest (V.divides_sum o F h f (g · (- d.quotient)) p.0 (V.divides_product o F h g (- d.quotient) p.1 (B.polynomial_negative o L d.quotient d.polynomial)))),
   )
     where
@@ -38,7 +38,7 @@ module _ {M : Type 0} (o : RingOps M) (F : IsField o) where
       rest =
           ap (λ t. t + g · (- d.quotient)) d.is
           ∙ solve (series o) SL (g ∷ d.quotient ∷ d.remainder ∷ []) (var 0 ⊠ var 1 ⊞ var 2 ⊞ var 0 ⊠ neg (var 1)) (var 2) refl
-          ∙ r-is
+          ∙ r_is
 
   -- the divisors of f x, with x a unit, are those of f
   pub unit_divisors : (f h : ℕ → M) (x y : M) → y ⊙ x ≡ I → Divides o h (scale o x f) ↔ Divides o h f

@@ -53,18 +53,18 @@ module _ {R : Type 0} (o : RingOps R) (L : RingLaws o) where
   highest_none h = inl (λ i l. absurd (not-suc-le-zero l), refl)
 
   pub highest_step : (i d r width : ℕ) (h : ℕ → ℕ → R) (found : Option ℕ) → Highest o i h d → DegreeOf o width (h i) found → Larger d found r → Highest o (i + 1) h r
-  highest_step i d r width h None (inl (z, e)) degree r-is = inl (below_more (λ j. h j ≡ (series o).zero) i z degree, r-is ∙ e)
-  highest_step i d r width h None (inr v) degree r-is =
-      inr (subst (VectorDegree o (i + 1) h) (sym r-is)
+  highest_step i d r width h None (inl (z, e)) degree r_is = inl (below_more (λ j. h j ≡ (series o).zero) i z degree, r_is ∙ e)
+  highest_step i d r width h None (inr v) degree r_is =
+      inr (subst (VectorDegree o (i + 1) h) (sym r_is)
       (record {
         bounded = below_more (λ j. Below o (suc d) (h j)) i v.bounded (λ k l. ap (λ (t : ℕ → R). t k) degree);
         component = v.component;
         within = let w = v.within in omega arith;
         top = v.top;
       }))
-  highest_step i d r width h (Some k) (inl (z, e)) degree r-is =
+  highest_step i d r width h (Some k) (inl (z, e)) degree r_is =
       let m = le-max_right d k in
-      let s : r ≡ k = r-is ∙ ap (λ t. max t k) e ∙ max_zero k in
+      let s : r ≡ k = r_is ∙ ap (λ t. max t k) e ∙ max_zero k in
       inr (subst (VectorDegree o (i + 1) h) (sym s)
       (record {
         bounded = below_more (λ j. Below o (suc k) (h j)) i (λ j l n b. ap (λ (t : ℕ → R). t n) (z j l)) degree.1.below;
@@ -75,7 +75,7 @@ module _ {R : Type 0} (o : RingOps R) (L : RingLaws o) where
     where
       max_zero : (k : ℕ) → max 0 k ≡ k
       max_zero k = omega arith
-  highest_step i d r width h (Some k) (inr v) degree r-is = go (dec_lt d k)
+  highest_step i d r width h (Some k) (inr v) degree r_is = go (dec_lt d k)
     where
       go : Dec (d < k) → Highest o (i + 1) h r
       go (yes l) =
@@ -173,12 +173,12 @@ module _ {F R : Type 0} (o : RingOps R) (L : RingLaws o) (member : F → R) wher
       → KeptTwo o member 0 17 (4385 + 17 * i) 17 ys zs
       → DividedFirst (i + 1) a g zs
   divide_step i a g xs ys zs inv copied keep quotient cleared others =
-      let gcd-is : gcd_in o member ys ≡ g = gcd_kept xs ys keep ∙ inv.1 in
+      let gcd_is : gcd_in o member ys ≡ g = gcd_kept xs ys keep ∙ inv.1 in
       let kept : (k : ℕ) → (Within 0 17 k → ⊥) → (Within (4385 + 17 * i) 17 k → ⊥) → at o member zs k ≡ at o member xs k = λ k n m. others k n m ∙ keep k n in (
         below_more (λ j. (series o).product g (quotient_in o member zs j) ≡ a j) i
             (λ j l. ap ((series o).product g) (P.poly_at_kept_two o member xs zs 0 17 (4385 + 17 * i) 17 (4385 + 17 * j) 17 kept (λ k w v. omega arith) (λ k w v. omega arith)) ∙ inv.0 j l)
-            (ap (λ t. (series o).product t (quotient_in o member zs i)) (sym gcd-is) ∙ quotient ∙ copied),
-        P.poly_at_kept_two o member ys zs 0 17 (4385 + 17 * i) 17 4368 17 others (λ k w v. omega arith) (λ k w v. omega arith) ∙ gcd-is,
+            (ap (λ t. (series o).product t (quotient_in o member zs i)) (sym gcd_is) ∙ quotient ∙ copied),
+        P.poly_at_kept_two o member ys zs 0 17 (4385 + 17 * i) 17 4368 17 others (λ k w v. omega arith) (λ k w v. omega arith) ∙ gcd_is,
         λ k n. elim (dec_lt k 17) [
           | yes l ↦ part_zero zs 0 17 k cleared (omega arith, omega arith)
           | no l ↦ kept k (λ w. omega arith) (λ w. n (omega arith, omega arith)) ∙ inv.2 k (λ w. n (omega arith, omega arith))

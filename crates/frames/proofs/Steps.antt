@@ -57,13 +57,13 @@ module _ {F R : Type 0} (o : RingOps R) (field : IsField o) (member : F → R) w
   euclid_turn left right width bound e xs ys zs apart l h below degree rem keep first second others =
       let g = poly_at o member xs right width in
       let g_below : Below o (e + 1) g = B.below_mono o L (suc e) (e + 1) g (omega arith) degree.below in
-      let g-is : g ≡ poly_at o member xs right (e + 1) = sym (P.poly_at_narrow o member xs right (e + 1) width (omega arith) g_below) in
-      let f-is : poly_at o member xs left width ≡ poly_at o member xs left bound = sym (P.poly_at_narrow o member xs left bound width l below) in
+      let g_is : g ≡ poly_at o member xs right (e + 1) = sym (P.poly_at_narrow o member xs right (e + 1) width (omega arith) g_below) in
+      let f_is : poly_at o member xs left width ≡ poly_at o member xs left bound = sym (P.poly_at_narrow o member xs left bound width l below) in
       let left_is : poly_at o member zs left width ≡ g = first ∙ P.poly_at_kept o member xs ys left bound right width keep (λ k w v. apart k (omega arith, omega arith) v) in
       let right_is : poly_at o member zs right width ≡ poly_at o member ys left bound = second ∙ sym (P.poly_at_narrow o member ys left bound width l (still_below xs ys left bound width below keep)) in (
         same_common_cong o (poly_at o member xs left width) g (poly_at o member zs left width) (poly_at o member zs right width)
             (poly_at o member xs left bound) (poly_at o member xs right (e + 1)) (poly_at o member xs right (e + 1)) (poly_at o member ys left bound)
-            f-is g-is (left_is ∙ g-is) right_is
+            f_is g_is (left_is ∙ g_is) right_is
             (C.same_common_step o field (poly_at o member xs left bound) (poly_at o member xs right (e + 1)) (poly_at o member ys left bound) e rem.0 rem.1),
         subst (Below o (e + 1)) (sym left_is) g_below,
         subst (Below o e) (rem.1 ∙ sym right_is) rem.0.small,

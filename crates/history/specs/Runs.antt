@@ -8,7 +8,7 @@ use Rattle.history.specs.declared.request.Answer.TheVariants.{Put as answered}
 
 -- one call: what it answered, and what the generators held before and after it
 abbrev pub Step : {F : Type 0} → (F → ℕ) → (order n : ℕ) → Request → List F → Answer → List F → Type 0
-Step code_of_lem order n (put i power code) before (answered r) after = Puts code_of_lem order n i power code before r after
+Step code_of order n (put i power code) before (answered r) after = Puts code_of order n i power code before r after
 
 -- a list of calls, each on the table that the one before it left
 pub data Performs {Q T S : Type 0} (step : Q → S → T → S → Type 0) : List Q → S → List T → S → Type 0 where

@@ -44,8 +44,8 @@ module _ {M : Type 0} (o : RingOps M) (field : IsField o) where
     same_degree degree v j h = found_degree n (c (suc j)) (δ j) (degree j) (found j h) (v j h)
 
     pub unordered : (d : ℕ) → (InOrder m d δ → ⊥) → InDegree o n m d c → ⊥
-    unordered d no-order t =
-        no-order (
+    unordered d no_order t =
+        no_order (
           λ j h.
               let a = same_degree t.degree t.degrees j (omega arith) in
               let b = same_degree t.degree t.degrees (suc j) h in
@@ -55,8 +55,8 @@ module _ {M : Type 0} (o : RingOps M) (field : IsField o) where
         )
 
     pub dependent : (d : ℕ) → (Independent o All m n leading → ⊥) → InDegree o n m d c → ⊥
-    dependent d no-independence t =
-        no-independence (independent_ext m n (λ j i. c (suc j) i (t.degree j)) leading (λ j k h l. ap (λ e. c (suc j) k e) (sym (same_degree t.degree t.degrees j h))) t.independent)
+    dependent d no_independence t =
+        no_independence (independent_ext m n (λ j i. c (suc j) i (t.degree j)) leading (λ j k h l. ap (λ e. c (suc j) k e) (sym (same_degree t.degree t.degrees j h))) t.independent)
 
     nonzero : Independent o All m n leading → (j : ℕ) → j < m → AllZero o n (c (suc j)) → ⊥
     nonzero independent j h zero =

@@ -1,4 +1,4 @@
--- The product of a row with a column, one component at a time, and its comparison with a multiple of the divisor. Main results: dot_more, dot-all, difference_zero,
+-- The product of a row with a column, one component at a time, and its comparison with a multiple of the divisor. Main results: dot_more, difference_zero,
 -- zero_difference.
 use Rattle.std.proofs.Common.{◌≡◌, ℕ, ◌+◌ as ◌plus◌, sym, ap, ◌∙◌, ap₂, add-one}
 use mathlib.Core.Path.{fun_ext}

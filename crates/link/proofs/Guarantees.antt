@@ -71,11 +71,11 @@ module _ {F R : Type 0} (o : RingOps R) (member : F → R) where
         home = link.inverts (n - 1) row (column o member frame) optimal.columns (length table) message (stream o member n block) (subst (λ k. Encodes o k row (length table) message (stream o member n block)) same encodes)
 
     pub one_symbol_changes_few : (block message : List F) → Inverted o member n frame block message → OneSymbolChangesFew o member n frame block message
-    one_symbol_changes_few block message is e i t changed other degree h one long is-other =
+    one_symbol_changes_few block message is e i t changed other degree h one long is_other =
         record {
           place = few.place;
           elsewhere = λ k far. elim (dec_lt k (length message)) [
-            | yes l ↦ is k l ∙ few.elsewhere k far ∙ sym (is-other k (omega arith))
+            | yes l ↦ is k l ∙ few.elsewhere k far ∙ sym (is_other k (omega arith))
             | no l ↦ message_below message k (omega arith) ∙ sym (message_below other k (omega arith))
           ];
         }

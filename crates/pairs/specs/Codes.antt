@@ -27,8 +27,8 @@ digits n k = omega (arith, div-add-mod k n)
 
 -- a number whose two digits to the base n are u and v
 pub two_digits : (n s k u v : ℕ) → s ≡ n → k % s < n → u ≡ k % s → k / s < n → v ≡ k / s → (k < n * n) × (u + n * v ≡ k)
-two_digits n s k u v e lu is-u lv is-v =
-    let back : u + n * v ≡ k = ap₂ (λ (a b : ℕ). a + n * b) is-u is-v ∙ ap (λ (m : ℕ). k % m + n * (k / m)) e ∙ digits n k in
+two_digits n s k u v e lu is_u lv is_v =
+    let back : u + n * v ≡ k = ap₂ (λ (a b : ℕ). a + n * b) is_u is_v ∙ ap (λ (m : ℕ). k % m + n * (k / m)) e ∙ digits n k in
     let below = digits_below n u v (omega arith) (omega arith) in
     (omega arith, back)
 

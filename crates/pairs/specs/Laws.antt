@@ -66,10 +66,10 @@ module _ {M : Type 0} (o : RingOps M) (t c : M) (L : RingLaws o) where
 
   -- the same, each step by its own equation: q is t, p is t·v, s is u − t·v, n is −v, and d is the norm
   pub steps_invert : (x : PairMember M) (w q p s n a b d : M) → q ≡ t → p ≡ o.product q x.high → s ≡ o.sum x.low (o.negative p) → n ≡ o.negative x.high → a ≡ o.product s w → b ≡ o.product n w → d ≡ norm o t c x → o.product d w ≡ o.one → (pair_ops o t c).product x (pair a b) ≡ (pair_ops o t c).one
-  steps_invert x w q p s n a b d is-q is-p is-s is-n is-a is_b is-d e =
-      let low : s ≡ o.sum x.low (o.negative (o.product t x.high)) = is-s ∙ ap (λ (y : M). o.sum x.low (o.negative y)) (is-p ∙ ap (λ (y : M). o.product y x.high) is-q) in
-      ap ((pair_ops o t c).product x) (ap₂ pair (is-a ∙ ap (λ (y : M). o.product y w) low) (is_b ∙ ap (λ (y : M). o.product y w) is-n))
-      ∙ conjugate_inverts x w (ap (λ (y : M). o.product y w) (sym is-d) ∙ e)
+  steps_invert x w q p s n a b d is_q is_p is_s is_n is_a is_b is_d e =
+      let low : s ≡ o.sum x.low (o.negative (o.product t x.high)) = is_s ∙ ap (λ (y : M). o.sum x.low (o.negative y)) (is_p ∙ ap (λ (y : M). o.product y x.high) is_q) in
+      ap ((pair_ops o t c).product x) (ap₂ pair (is_a ∙ ap (λ (y : M). o.product y w) low) (is_b ∙ ap (λ (y : M). o.product y w) is_n))
+      ∙ conjugate_inverts x w (ap (λ (y : M). o.product y w) (sym is_d) ∙ e)
 
   -- a zero of the norm would make −u/v a root
   root : (x : PairMember M) (w : M) → o.product x.high w ≡ o.one → quadratic o t c (o.negative (o.product x.low w)) ≡ o.product (o.product w w) (norm o t c x)
@@ -120,8 +120,8 @@ module _ {M : Type 0} (o : RingOps M) (t c : M) (F : FieldLaws o) (decide : (x :
 
   -- the norm is zero only of zero
   pub norm_zero : (x : PairMember M) (d : M) → d ≡ norm o t c x → d ≡ o.zero → x ≡ (pair_ops o t c).zero
-  norm_zero x d is-d zero-d =
-      let e : norm o t c x ≡ o.zero = sym is-d ∙ zero-d in
+  norm_zero x d is_d zero_d =
+      let e : norm o t c x ≡ o.zero = sym is_d ∙ zero_d in
       let h : x.high ≡ o.zero = high_zero x e in
       ap₂ pair (square_zero x.low (sym (low_square x h) ∙ e)) h
 

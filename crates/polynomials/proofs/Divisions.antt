@@ -23,14 +23,14 @@ module _ {F R : Type 0} (o : RingOps R) (L : RingLaws o) (member : F → R) wher
       → Below o (suc k) (poly_at o member ys base width)
       → poly_at o member zs base width ≡ (series o).sum (poly_at o member ys base width) (shift o j (scale o (o.negative r) (poly_at o member ys divisor (e + 1))))
       → (poly_at o member xs base width ≡ (series o).sum ((series o).product (poly_at o member xs divisor (e + 1)) ((series o).sum q (shift o j (constant o r)))) (poly_at o member zs base width)) × Below o k (poly_at o member zs base width)
-  cancelled base width divisor e k j r z q xs ys zs same unit h k-is r-is is below rest =
+  cancelled base width divisor e k j r z q xs ys zs same unit h k_is r_is is below rest =
       let b = poly_at o member xs divisor (e + 1) in
       let left = poly_at o member ys base width in
       let next = rest ∙ ap (λ t. (series o).sum left (shift o j (scale o (o.negative r) t))) same in (
         Long.step_is o L (poly_at o member xs base width) b q left (poly_at o member zs base width) j r is next,
-        Long.top_cancels o L b left (poly_at o member zs base width) k e j r z k-is
+        Long.top_cancels o L b left (poly_at o member zs base width) k e j r z k_is
             (ap (λ t. o.product t z) (P.poly_at_in o member xs divisor (e + 1) e (omega arith)) ∙ unit)
-            (r-is ∙ ap (o.product z) (sym (P.poly_at_in o member ys base width k h)))
+            (r_is ∙ ap (o.product z) (sym (P.poly_at_in o member ys base width k h)))
             (B.below_mono o L (e + 1) (suc e) b (omega arith) (P.poly_at_below o member xs divisor (e + 1)))
             below next,
       )
@@ -66,11 +66,11 @@ module _ {F R : Type 0} (o : RingOps R) (L : RingLaws o) (member : F → R) wher
       → poly_at o member zs base width ≡ (series o).sum (poly_at o member ys base width) (shift o j (scale o (o.negative r) (poly_at o member ys divisor (e + 1))))
       → Kept o member base (k + 1) ys zs
       → Reduced base width divisor e top xs ys → Reduced base width divisor e k xs zs
-  reduced_step base width divisor e top k j r z xs ys zs apart unit h k-is top_is r-is rest keep inv =
+  reduced_step base width divisor e top k j r z xs ys zs apart unit h k_is top_is r_is rest keep inv =
       let q = inv.0.0 in
       let both = cancelled base width divisor e k j r z q xs ys zs
       (P.poly_at_kept o member xs ys base width divisor (e + 1) inv.2 apart)
-      unit h k-is r-is inv.0.2 (subst (λ n. Below o n (poly_at o member ys base width)) top_is inv.1) rest in (
+      unit h k_is r_is inv.0.2 (subst (λ n. Below o n (poly_at o member ys base width)) top_is inv.1) rest in (
         ((series o).sum q (shift o j (constant o r)), Long.step_polynomial o L q j r inv.0.1, both.0),
         both.1,
         λ i n. keep i (λ w. n (omega arith, omega arith)) ∙ inv.2 i n,
@@ -108,22 +108,22 @@ module _ {F R : Type 0} (o : RingOps R) (L : RingLaws o) (member : F → R) wher
       → Kept o member base (k + 1) ys ws
       → at o member zs (quotient + j) ≡ r → Kept o member (quotient + j) 1 ws zs
       → Divided base width divisor e quotient top xs ys → Divided base width divisor e quotient k xs zs
-  divided_step base width divisor e quotient top k j r z xs ys ws zs apart apart-quotient apart-divisor unit h k-is top_is r-is rest keep here others inv =
+  divided_step base width divisor e quotient top k j r z xs ys ws zs apart apart_quotient apart_divisor unit h k_is top_is r_is rest keep here others inv =
       let q = poly_at o member ys quotient width in
-      let divisor-same : poly_at o member ys divisor (e + 1) ≡ poly_at o member xs divisor (e + 1) =
+      let divisor_same : poly_at o member ys divisor (e + 1) ≡ poly_at o member xs divisor (e + 1) =
       P.poly_at_is o member ys divisor (e + 1) (poly_at o member xs divisor (e + 1)) (P.poly_at_below o member xs divisor (e + 1))
-      (λ i l. inv.3 (divisor + i) (λ w. apart (divisor + i) w (omega arith, omega arith)) (λ w. apart-divisor (divisor + i) (omega arith, omega arith) w) ∙ sym (P.poly_at_in o member xs divisor (e + 1) i l)) in
-      let both = cancelled base width divisor e k j r z q xs ys ws divisor-same unit h k-is r-is inv.0 (subst (λ n. Below o n (poly_at o member ys base width)) top_is inv.1) rest in
-      let left-same : poly_at o member zs base width ≡ poly_at o member ws base width =
-      P.poly_at_kept o member ws zs (quotient + j) 1 base width others (λ i w v. apart-quotient i v (omega arith, omega arith)) in
+      (λ i l. inv.3 (divisor + i) (λ w. apart (divisor + i) w (omega arith, omega arith)) (λ w. apart_divisor (divisor + i) (omega arith, omega arith) w) ∙ sym (P.poly_at_in o member xs divisor (e + 1) i l)) in
+      let both = cancelled base width divisor e k j r z q xs ys ws divisor_same unit h k_is r_is inv.0 (subst (λ n. Below o n (poly_at o member ys base width)) top_is inv.1) rest in
+      let left_same : poly_at o member zs base width ≡ poly_at o member ws base width =
+      P.poly_at_kept o member ws zs (quotient + j) 1 base width others (λ i w v. apart_quotient i v (omega arith, omega arith)) in
       let outside : (i : ℕ) → i < width → at o member ws (quotient + i) ≡ at o member ys (quotient + i) =
-      λ i l. keep (quotient + i) (λ w. apart-quotient (quotient + i) (omega arith, omega arith) (omega arith, omega arith)) in
+      λ i l. keep (quotient + i) (λ w. apart_quotient (quotient + i) (omega arith, omega arith) (omega arith, omega arith)) in
       let quotient_is : poly_at o member zs quotient width ≡ (series o).sum q (shift o j (constant o r)) =
       P.poly_at_put o member L ws zs quotient width j r (omega arith) (outside j (omega arith) ∙ inv.2 j (omega arith)) here others
       ∙ ap (λ t. (series o).sum t (shift o j (constant o r)))
       (P.poly_at_is o member ws quotient width q (P.poly_at_below o member ys quotient width) (λ i l. outside i l ∙ sym (P.poly_at_in o member ys quotient width i l))) in (
-        both.0 ∙ ap₂ (λ s t. (series o).sum ((series o).product (poly_at o member xs divisor (e + 1)) s) t) (sym quotient_is) (sym left-same),
-        subst (Below o k) (sym left-same) both.1,
+        both.0 ∙ ap₂ (λ s t. (series o).sum ((series o).product (poly_at o member xs divisor (e + 1)) s) t) (sym quotient_is) (sym left_same),
+        subst (Below o k) (sym left_same) both.1,
         λ i l. others (quotient + i) (λ w. omega arith) ∙ outside i (omega arith) ∙ inv.2 i (omega arith),
         λ i n m. others i (λ w. m (omega arith, omega arith)) ∙ keep i (λ w. n (omega arith, omega arith)) ∙ inv.3 i n m,
       )
@@ -154,16 +154,16 @@ module _ {F R : Type 0} (o : RingOps R) (L : RingLaws o) (member : F → R) wher
       → ((n : ℕ) → k + count ≤ n → poly_at o member zs base n ≡ (series o).sum (poly_at o member ys base n) (shift o k (scale o x (poly_at o member ys right count))))
       → Kept o member (base + k) count ys zs
       → Multiplied base left width right count k xs ys → Multiplied base left width right count (k + 1) xs zs
-  multiplied_step base left width right count k x xs ys zs apart-left apart-right h x-is added keep inv =
+  multiplied_step base left width right count k x xs ys zs apart_left apart_right h x_is added keep inv =
       let f = poly_at o member xs right count in
       let p = poly_at o member xs left k in
-      let x-was : x ≡ at o member xs (left + k) = x-is ∙ inv.1 (left + k) (λ w. apart-left (left + k) w (omega arith, omega arith)) in
-      let q-is : poly_at o member xs left (k + 1) ≡ (series o).sum p (shift o k (constant o x)) =
-      P.poly_at_more o member L xs left k ∙ ap (λ t. (series o).sum p (shift o k (constant o t))) (sym x-was) in (
+      let x_was : x ≡ at o member xs (left + k) = x_is ∙ inv.1 (left + k) (λ w. apart_left (left + k) w (omega arith, omega arith)) in
+      let q_is : poly_at o member xs left (k + 1) ≡ (series o).sum p (shift o k (constant o x)) =
+      P.poly_at_more o member L xs left k ∙ ap (λ t. (series o).sum p (shift o k (constant o t))) (sym x_was) in (
         λ n l.
             added n (omega arith)
-            ∙ ap₂ (λ s t. (series o).sum s (shift o k (scale o x t))) (inv.0 n l) (P.poly_at_kept o member xs ys base (width + count - 1) right count inv.1 apart-right)
-            ∙ Long.product_more o L (poly_at o member xs base n) p (poly_at o member xs left (k + 1)) f k x q-is,
+            ∙ ap₂ (λ s t. (series o).sum s (shift o k (scale o x t))) (inv.0 n l) (P.poly_at_kept o member xs ys base (width + count - 1) right count inv.1 apart_right)
+            ∙ Long.product_more o L (poly_at o member xs base n) p (poly_at o member xs left (k + 1)) f k x q_is,
         λ i n. keep i (λ w. n (omega arith, omega arith)) ∙ inv.1 i n,
       )
 

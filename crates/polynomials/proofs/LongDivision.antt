@@ -42,14 +42,14 @@ module _ {M : Type 0} (o : RingOps M) (L : RingLaws o) where
 
   -- with r the ratio of the leading coefficients the bound falls
   pub top_cancels : (b g h : ℕ → M) (k e j : ℕ) (r z : M) → k ≡ j plus e → b e ⊙ z ≡ I → r ≡ z ⊙ g k → Below o (suc e) b → Below o (suc k) g → h ≡ g + shift o j (scale o (minus r) b) → Below o k h
-  top_cancels b g h k e j r z k-is unit r-is bb bg h-is n l =
-      ap (λ (t : ℕ → M). t n) h-is
+  top_cancels b g h k e j r z k_is unit r_is bb bg h_is n l =
+      ap (λ (t : ℕ → M). t n) h_is
       ∙ B.below_top o L k (g + shift o j (scale o (minus r) b))
       (B.below_sum o L (suc k) g (shift o j (scale o (minus r) b)) bg (B.below_shift o L j (suc e) (suc k) (scale o (minus r) b) (omega arith) (B.below_scale o L (suc e) (minus r) b bb)))
       (ap (λ t. o.sum (g k) t)
-      (S.shift_at o L j k e (scale o (minus r) b) k-is
+      (S.shift_at o L j k e (scale o (minus r) b) k_is
       ∙ Sums.negative_product o L r (b e)
-      ∙ ap (λ t. minus (t ⊙ b e)) r-is
+      ∙ ap (λ t. minus (t ⊙ b e)) r_is
       ∙ ap minus (solve o L (z ∷ g k ∷ b e ∷ []) (var 0 ⊠ var 1 ⊠ var 2) (var 2 ⊠ var 0 ⊠ var 1) refl ∙ ap (λ t. t ⊙ g k) unit ∙ Sums.one_product o L (g k)))
       ∙ L.sum_negative (g k))
       n l

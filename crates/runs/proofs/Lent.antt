@@ -38,62 +38,62 @@ turned_from_framed x (asked.Encode m b) o e c v = absurd (e m b refl)
 turned_from_framed x (asked.Check b) o e c v = absurd (c b refl)
 turned_from_framed x (asked.Invert b m) o e c v = absurd (v b m refl)
 
-module _ {F R : Type 0} (o : RingOps R) (member : F → R) (code_of_lem : F → ℕ) (order : ℕ) where
-  pub asked_as : (q q' : Request F) (s : Held F) (a : Answer F) (t : Held F) → q' ≡ q → Step o member code_of_lem order q s a t → Step o member code_of_lem order q' s a t
-  asked_as q q' s a t is step = subst (λ (z : Request F). Step o member code_of_lem order z s a t) (sym is) step
+module _ {F R : Type 0} (o : RingOps R) (member : F → R) (code_of : F → ℕ) (order : ℕ) where
+  pub asked_as : (q q' : Request F) (s : Held F) (a : Answer F) (t : Held F) → q' ≡ q → Step o member code_of order q s a t → Step o member code_of order q' s a t
+  asked_as q q' s a t is step = subst (λ (z : Request F). Step o member code_of order z s a t) (sym is) step
 
-  pub standing_as : (q : Request F) (d d' : Design) (g f : List F) (a : Answer F) (t : Held F) → d' ≡ d → Step o member code_of_lem order q (held d g f) a t
-      → Step o member code_of_lem order q (held d' g f) a t
-  standing_as q d d' g f a t is step = subst (λ (z : Design). Step o member code_of_lem order q (held z g f) a t) (sym is) step
+  pub standing_as : (q : Request F) (d d' : Design) (g f : List F) (a : Answer F) (t : Held F) → d' ≡ d → Step o member code_of order q (held d g f) a t
+      → Step o member code_of order q (held d' g f) a t
+  standing_as q d d' g f a t is step = subst (λ (z : Design). Step o member code_of order q (held z g f) a t) (sym is) step
 
   pub frames_lent : (d : Draft) (x : Framed) (w w' : _) (l l' g f f' : List F) → l ≡ vec_items w → vec_items w' ≡ l'
       → Frames o member d.n g f l f' l' x.n x.degree x.divisor x.columns
-      → Step o member code_of_lem order (asked.Frame w) (held (standing.Draft d) g f) (answered.Frame (Ok tt) w') (held (standing.Framed x) g f')
+      → Step o member code_of order (asked.Frame w) (held (standing.Draft d) g f) (answered.Frame (Ok tt) w') (held (standing.Framed x) g f')
   frames_lent d x w w' l l' g f f' was is call =
       frames (subst₂ (λ (a b : List F). Frames o member d.n g f a f' b x.n x.degree x.divisor x.columns) was (sym is) call)
 
   pub refused_lent : (d d' : Draft) (e : DesignFault) (w w' : _) (l l' g f f' : List F) → l ≡ vec_items w → vec_items w' ≡ l'
       → d' ≡ d → f' ≡ f → FrameRefused o member d.n g f l l' e
-      → Step o member code_of_lem order (asked.Frame w) (held (standing.Draft d) g f) (answered.Frame (Err e) w') (held (standing.Draft d') g f')
+      → Step o member code_of order (asked.Frame w) (held (standing.Draft d) g f) (answered.Frame (Err e) w') (held (standing.Draft d') g f')
   refused_lent d d' e w w' l l' g f f' was is same kept call =
-      subst₂ (λ (y : Draft) (z : List F). Step o member code_of_lem order (asked.Frame w) (held (standing.Draft d) g f) (answered.Frame (Err e) w') (held (standing.Draft y) g z)) (sym same) (sym kept)
+      subst₂ (λ (y : Draft) (z : List F). Step o member code_of order (asked.Frame w) (held (standing.Draft d) g f) (answered.Frame (Err e) w') (held (standing.Draft y) g z)) (sym same) (sym kept)
       (frame_refused (subst₂ (λ (a b : List F). FrameRefused o member d.n g f a b e) was (sym is) call))
 
   pub offers_lent : (d : Draft) (x : Framed) (p w w' : _) (lp l l' g f f' : List F) → lp ≡ vec_items p → l ≡ vec_items w → vec_items w' ≡ l'
       → Offers o member d.n g lp f l f' l' x.n x.degree x.divisor x.columns
-      → Step o member code_of_lem order (asked.Offer p w) (held (standing.Draft d) g f) (answered.Offer (Ok tt) p w') (held (standing.Framed x) g f')
+      → Step o member code_of order (asked.Offer p w) (held (standing.Draft d) g f) (answered.Offer (Ok tt) p w') (held (standing.Framed x) g f')
   offers_lent d x p w w' lp l l' g f f' brought was is call =
       offers (subst₂ (λ (a z : List F). Offers o member d.n g a f (vec_items w) f' z x.n x.degree x.divisor x.columns) brought (sym is)
       (subst (λ (z : List F). Offers o member d.n g lp f z f' l' x.n x.degree x.divisor x.columns) was call))
 
   pub offer_refused_lent : (d d' : Draft) (e : DesignFault) (p w w' : _) (lp l l' g f f' : List F) → lp ≡ vec_items p → l ≡ vec_items w → vec_items w' ≡ l'
       → d' ≡ d → f' ≡ f → OfferRefused o member d.n g lp f l l' e
-      → Step o member code_of_lem order (asked.Offer p w) (held (standing.Draft d) g f) (answered.Offer (Err e) p w') (held (standing.Draft d') g f')
+      → Step o member code_of order (asked.Offer p w) (held (standing.Draft d) g f) (answered.Offer (Err e) p w') (held (standing.Draft d') g f')
   offer_refused_lent d d' e p w w' lp l l' g f f' brought was is same kept call =
-      subst₂ (λ (y : Draft) (z : List F). Step o member code_of_lem order (asked.Offer p w) (held (standing.Draft d) g f) (answered.Offer (Err e) p w') (held (standing.Draft y) g z)) (sym same) (sym kept)
+      subst₂ (λ (y : Draft) (z : List F). Step o member code_of order (asked.Offer p w) (held (standing.Draft d) g f) (answered.Offer (Err e) p w') (held (standing.Draft y) g z)) (sym same) (sym kept)
       (offer_refused (subst₂ (λ (a z : List F). OfferRefused o member d.n g a f (vec_items w) z e) brought (sym is)
       (subst (λ (z : List F). OfferRefused o member d.n g lp f z l' e) was call)))
 
   pub reopen_refused_by : (x x' : Framed) (e : DesignFault) (g f f' : List F) → Some e ≡ first_no (reopen_questions (length f)) → x' ≡ x → f' ≡ f
-      → Step o member code_of_lem order asked.Reopen (held (standing.Framed x) g f) (answered.Reopen (Err e)) (held (standing.Framed x') g f')
+      → Step o member code_of order asked.Reopen (held (standing.Framed x) g f) (answered.Reopen (Err e)) (held (standing.Framed x') g f')
   reopen_refused_by x x' e g f f' by same kept =
-      subst₂ (λ (y : Framed) (z : List F). Step o member code_of_lem order asked.Reopen (held (standing.Framed x) g f) (answered.Reopen (Err e)) (held (standing.Framed y) g z)) (sym same) (sym kept)
+      subst₂ (λ (y : Framed) (z : List F). Step o member code_of order asked.Reopen (held (standing.Framed x) g f) (answered.Reopen (Err e)) (held (standing.Framed y) g z)) (sym same) (sym kept)
       (reopen_refused (sym by))
 
   pub encodes_lent : (x : Framed) (r : Result (Unit {0}) LinkFault) (m b b' : _) (lm l l' g f : List F) → lm ≡ vec_items m → l ≡ vec_items b → vec_items b' ≡ l'
       → EncodeCall o member x g lm l r l'
-      → Step o member code_of_lem order (asked.Encode m b) (held (standing.Framed x) g f) (answered.Encode r m b') (held (standing.Framed x) g f)
+      → Step o member code_of order (asked.Encode m b) (held (standing.Framed x) g f) (answered.Encode r m b') (held (standing.Framed x) g f)
   encodes_lent x r m b b' lm l l' g f message was is call =
       encodes (subst₂ (λ (a : List F) (z : List F). EncodeCall o member x g a (vec_items b) r z) message (sym is)
       (subst (λ (z : List F). EncodeCall o member x g lm z r l') was call))
 
   pub checks_lent : (x : Framed) (r : Result Bool LinkFault) (b : _) (l g f : List F) → l ≡ vec_items b → CheckCall o member x f l r
-      → Step o member code_of_lem order (asked.Check b) (held (standing.Framed x) g f) (answered.Check r b) (held (standing.Framed x) g f)
+      → Step o member code_of order (asked.Check b) (held (standing.Framed x) g f) (answered.Check r b) (held (standing.Framed x) g f)
   checks_lent x r b l g f was call = checks (subst (λ (z : List F). CheckCall o member x f z r) was call)
 
   pub inverts_lent : (x : Framed) (r : Result (Unit {0}) LinkFault) (b m m' : _) (lb l l' g f : List F) → lb ≡ vec_items b → l ≡ vec_items m → vec_items m' ≡ l'
       → InvertCall o member x f lb l r l'
-      → Step o member code_of_lem order (asked.Invert b m) (held (standing.Framed x) g f) (answered.Invert r b m') (held (standing.Framed x) g f)
+      → Step o member code_of order (asked.Invert b m) (held (standing.Framed x) g f) (answered.Invert r b m') (held (standing.Framed x) g f)
   inverts_lent x r b m m' lb l l' g f block was is call =
       inverts (subst₂ (λ (a : List F) (z : List F). InvertCall o member x f a (vec_items m) r z) block (sym is)
       (subst (λ (z : List F). InvertCall o member x f lb z r l') was call))

@@ -132,9 +132,9 @@ module _ {F R : Type 0} (o : RingOps R) (member : F → R) (laws : FieldLaws o) 
   turned_promised (standing.Draft d) g f q = tt
   turned_promised (standing.Framed x) g f q = tt
 
-  module _ (code_of_lem : F → ℕ) (order : ℕ) where
-    safe : (q : Request F) (s : Held F) (a : Answer F) (t : Held F) → Stands o member s.design s.generators s.frame → Step o member code_of_lem order q s a t
-        → SafeStep o member code_of_lem order q s a t
+  module _ (code_of : F → ℕ) (order : ℕ) where
+    safe : (q : Request F) (s : Held F) (a : Answer F) (t : Held F) → Stands o member s.design s.generators s.frame → Step o member code_of order q s a t
+        → SafeStep o member code_of order q s a t
     safe q s a t before (steps.puts call) = record { before = before; step = steps.puts call; after = tt; promised = tt }
     safe q s a t before (steps.frames {d} call) =
         record { before = before; step = steps.frames call; after = stands_framed _ _ _ _ _ _ _ _ _ _ d.low call; promised = tt }
@@ -152,7 +152,7 @@ module _ {F R : Type 0} (o : RingOps R) (member : F → R) (laws : FieldLaws o) 
     safe q s a t before (steps.turned_away by) = record { before = before; step = steps.turned_away by; after = before; promised = turned_promised s.design s.generators s.frame q }
 
     pub safe_run : (qs : List (Request F)) (s : Held F) (rs : List (Answer F)) (t : Held F) → Stands o member s.design s.generators s.frame
-        → Performs (Step o member code_of_lem order) qs s rs t → Performs (SafeStep o member code_of_lem order) qs s rs t
+        → Performs (Step o member code_of order) qs s rs t → Performs (SafeStep o member code_of order) qs s rs t
     safe_run qs s rs t before done = done
     safe_run qs s rs t before (next {q = q} {qs = qs'} {r = r} {rs = rs'} {t = mid} one more) =
         let so = safe q s r mid before one in next so (safe_run qs' mid rs' t so.after more)

@@ -71,38 +71,38 @@ module _ {F R : Type 0} (o : RingOps R) (member : F → R) where
     pub changes : IfOk r (λ _. OneSymbolChangesFew o member x.n frame block after)
 
   -- One call on a design with its tables.
-  pub data Step (code_of_lem : F → ℕ) (order : ℕ) : Request F → Held F → Answer F → Held F → Type 0 where
+  pub data Step (code_of : F → ℕ) (order : ℕ) : Request F → Held F → Answer F → Held F → Type 0 where
     puts : {d : Draft} {i power code : ℕ} {r : Result (Unit {0}) DesignFault} {g g' f : List F}
-        → Puts code_of_lem order d.n i power code g r g'
-        → Step code_of_lem order (asked.Put i power code) (held (standing.Draft d) g f) (answered.Put r) (held (standing.Draft d) g' f)
+        → Puts code_of order d.n i power code g r g'
+        → Step code_of order (asked.Put i power code) (held (standing.Draft d) g f) (answered.Put r) (held (standing.Draft d) g' f)
     frames : {d : Draft} {x : Framed} {w w' : _} {g f f' : List F}
         → Frames o member d.n g f (vec_items w) f' (vec_items w') x.n x.degree x.divisor x.columns
-        → Step code_of_lem order (asked.Frame w) (held (standing.Draft d) g f) (answered.Frame (Ok tt) w') (held (standing.Framed x) g f')
+        → Step code_of order (asked.Frame w) (held (standing.Draft d) g f) (answered.Frame (Ok tt) w') (held (standing.Framed x) g f')
     frame_refused : {d : Draft} {e : DesignFault} {w w' : _} {g f : List F}
         → FrameRefused o member d.n g f (vec_items w) (vec_items w') e
-        → Step code_of_lem order (asked.Frame w) (held (standing.Draft d) g f) (answered.Frame (Err e) w') (held (standing.Draft d) g f)
+        → Step code_of order (asked.Frame w) (held (standing.Draft d) g f) (answered.Frame (Err e) w') (held (standing.Draft d) g f)
     offers : {d : Draft} {x : Framed} {p w w' : _} {g f f' : List F}
         → Offers o member d.n g (vec_items p) f (vec_items w) f' (vec_items w') x.n x.degree x.divisor x.columns
-        → Step code_of_lem order (asked.Offer p w) (held (standing.Draft d) g f) (answered.Offer (Ok tt) p w') (held (standing.Framed x) g f')
+        → Step code_of order (asked.Offer p w) (held (standing.Draft d) g f) (answered.Offer (Ok tt) p w') (held (standing.Framed x) g f')
     offer_refused : {d : Draft} {e : DesignFault} {p w w' : _} {g f : List F}
         → OfferRefused o member d.n g (vec_items p) f (vec_items w) (vec_items w') e
-        → Step code_of_lem order (asked.Offer p w) (held (standing.Draft d) g f) (answered.Offer (Err e) p w') (held (standing.Draft d) g f)
+        → Step code_of order (asked.Offer p w) (held (standing.Draft d) g f) (answered.Offer (Err e) p w') (held (standing.Draft d) g f)
     reopens : {x : Framed} {d : Draft} {g f f' : List F}
         → first_no (reopen_questions (length f)) ≡ None → d.n ≡ x.n → Cleared o member f'
-        → Step code_of_lem order asked.Reopen (held (standing.Framed x) g f) (answered.Reopen (Ok tt)) (held (standing.Draft d) g f')
+        → Step code_of order asked.Reopen (held (standing.Framed x) g f) (answered.Reopen (Ok tt)) (held (standing.Draft d) g f')
     reopen_refused : {x : Framed} {e : DesignFault} {g f : List F}
         → first_no (reopen_questions (length f)) ≡ Some e
-        → Step code_of_lem order asked.Reopen (held (standing.Framed x) g f) (answered.Reopen (Err e)) (held (standing.Framed x) g f)
+        → Step code_of order asked.Reopen (held (standing.Framed x) g f) (answered.Reopen (Err e)) (held (standing.Framed x) g f)
     encodes : {x : Framed} {r : Result (Unit {0}) LinkFault} {m b b' : _} {g f : List F}
         → EncodeCall x g (vec_items m) (vec_items b) r (vec_items b')
-        → Step code_of_lem order (asked.Encode m b) (held (standing.Framed x) g f) (answered.Encode r m b') (held (standing.Framed x) g f)
+        → Step code_of order (asked.Encode m b) (held (standing.Framed x) g f) (answered.Encode r m b') (held (standing.Framed x) g f)
     checks : {x : Framed} {r : Result Bool LinkFault} {b : _} {g f : List F}
         → CheckCall x f (vec_items b) r
-        → Step code_of_lem order (asked.Check b) (held (standing.Framed x) g f) (answered.Check r b) (held (standing.Framed x) g f)
+        → Step code_of order (asked.Check b) (held (standing.Framed x) g f) (answered.Check r b) (held (standing.Framed x) g f)
     inverts : {x : Framed} {r : Result (Unit {0}) LinkFault} {b m m' : _} {g f : List F}
         → InvertCall x f (vec_items b) (vec_items m) r (vec_items m')
-        → Step code_of_lem order (asked.Invert b m) (held (standing.Framed x) g f) (answered.Invert r b m') (held (standing.Framed x) g f)
-    turned_away : {q : Request F} {s : Held F} → admits s.design q ≡ false → Step code_of_lem order q s (answered.NotAdmitted q) s
+        → Step code_of order (asked.Invert b m) (held (standing.Framed x) g f) (answered.Invert r b m') (held (standing.Framed x) g f)
+    turned_away : {q : Request F} {s : Held F} → admits s.design q ≡ false → Step code_of order q s (answered.NotAdmitted q) s
 
   -- where the design is framed, its tables hold what a framed design promises
   abbrev pub Stands : Design → (generators frame : List F) → Type 0
@@ -136,8 +136,8 @@ module _ {F R : Type 0} (o : RingOps R) (member : F → R) where
   PromisedOf (standing.Framed x) g f a = Promised x g f a
 
   -- One call of a run whose design, where it is framed, keeps its promises: before and after the call, and in its answer.
-  pub record SafeStep (code_of_lem : F → ℕ) (order : ℕ) (q : Request F) (s : Held F) (a : Answer F) (t : Held F) : Type 0 where
+  pub record SafeStep (code_of : F → ℕ) (order : ℕ) (q : Request F) (s : Held F) (a : Answer F) (t : Held F) : Type 0 where
     pub before : Stands s.design s.generators s.frame
-    pub step : Step code_of_lem order q s a t
+    pub step : Step code_of order q s a t
     pub after : Stands t.design t.generators t.frame
     pub promised : PromisedOf s.design s.generators s.frame a

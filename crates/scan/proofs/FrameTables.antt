@@ -54,9 +54,9 @@ module _ {F M : Type 0} (o : RingOps M) (member : F → M) (n d rank : ℕ) (P :
         | no b ↦ poly_at_below o member after (136 * j + 17 * i) 17 k (omega arith)
       ];
       at_pivot = λ t i k l a b e. poly_at_in o member after (136 * j + 17 * i) 17 k (omega arith) ∙ ap (at o member after) (sym (ap (cell n j) e ∙ cell_of n j i k a)) ∙ here t l;
-      elsewhere = λ i k a b no-pivot ne.
+      elsewhere = λ i k a b no_pivot ne.
           poly_at_in o member after (136 * j + 17 * i) 17 k (omega arith)
-          ∙ others (136 * j + 17 * i + k) (λ t l e. no-pivot t l (place_is (P t) i k (within_all n d (P t) low (places t l)) a (omega arith) e)) (λ y. ne (inside i k a (omega arith) y).1)
+          ∙ others (136 * j + 17 * i + k) (λ t l e. no_pivot t l (place_is (P t) i k (within_all n d (P t) low (places t l)) a (omega arith) e)) (λ y. ne (inside i k a (omega arith) y).1)
           ∙ zero i k a (omega arith);
     }
       where

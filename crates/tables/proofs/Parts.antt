@@ -94,7 +94,7 @@ module _ {F R : Type 0} (o : RingOps R) (member : F → R) where
 
   -- a multiple of a shifted polynomial, added place by place
   pub poly_at_added : RingLaws o → (x : R) (base power from width count n : ℕ) (xs ys : List F) → Filled (λ j. o.sum (at o member xs (base + power + j)) (o.product x (at o member xs (from + j)))) (base + power) n xs ys → n ≡ width → power + width ≤ count → poly_at o member ys base count ≡ (series o).sum (poly_at o member xs base count) (shift o power (scale o x (poly_at o member xs from width)))
-  poly_at_added L x base power from width count n xs ys p n-is fits =
+  poly_at_added L x base power from width count n xs ys p n_is fits =
       poly_at_is ys base count ((series o).sum (poly_at o member xs base count) added)
       (below_sum o L count (poly_at o member xs base count) added (poly_at_below xs base count) (below_shift o L power width count multiple fits (below_scale o L width x (poly_at o member xs from width) (poly_at_below xs from width))))
       (λ k h. elim (dec_lt k power) [

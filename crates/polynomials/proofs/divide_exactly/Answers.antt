@@ -32,10 +32,10 @@ returns g c =
     let b = poly_at f.ops f.member t c.args.divisor c.args.width in
     let q = poly_at f.ops f.member c.divide.new.table c.args.quotient c.args.width in
     let r = poly_at f.ops f.member c.divide.new.table c.args.base c.args.width in
-    let b-is = poly_at_narrow f.ops f.member t c.args.divisor (c.args.e + 1) c.args.width (omega arith) (below_mono f.ops L (suc c.args.e) (c.args.e + 1) b (omega arith) c.requires.degree.below) in
+    let b_is = poly_at_narrow f.ops f.member t c.args.divisor (c.args.e + 1) c.args.width (omega arith) (below_mono f.ops L (suc c.args.e) (c.args.e + 1) b (omega arith) c.requires.degree.below) in
     let both = exactly_divided f.ops (field_of g.met.F.Field.laws g.met.F.Field.numbered c.inverse_at-inverse.ensures.invertible)
     (poly_at f.ops f.member t c.args.base c.args.width) b q r c.args.e c.requires.degree c.requires.divides
     (c.args.width, poly_at_below f.ops f.member c.divide.new.table c.args.quotient c.args.width)
     c.divide.ensures.small
-    (c.divide.ensures.division ∙ ap (λ (p : ℕ → f.Member). (series f.ops).sum ((series f.ops).product p q) r) b-is) in
+    (c.divide.ensures.division ∙ ap (λ (p : ℕ → f.Member). (series f.ops).sum ((series f.ops).product p q) r) b_is) in
     record { quotient = both.0; cleared = both.1; others = c.divide.ensures.others }

@@ -12,10 +12,10 @@ pub loop-b-preserved : goal.loop-b-preserved
 loop-b-preserved c =
     let word = c.args.word.now in
     let i = c.loop-b.b-index in
-    let in-range : i < length word = omega arith in
+    let in_range : i < length word = omega arith in
     let told = c.in_ok-d.ensures in
-    let step : digits_value 10 (take (i + 1) word) ≡ digits_value 10 (take i word) * 10 + c.in_ok-d.d = digits_value_more 10 word i in-range ∙ ap (λ d. digits_value 10 (take i word) * 10 + d) told.0 in
-    (digits_more 10 word i in-range c.loop-b.invariant.0 (omega (arith, told)), rw step (saturates _ _ _ _ _ c.loop-b.invariant.1 c.saturating_mul.ensures c.saturating_add-n.ensures))
+    let step : digits_value 10 (take (i + 1) word) ≡ digits_value 10 (take i word) * 10 + c.in_ok-d.d = digits_value_more 10 word i in_range ∙ ap (λ d. digits_value 10 (take i word) * 10 + d) told.0 in
+    (digits_more 10 word i in_range c.loop-b.invariant.0 (omega (arith, told)), rw step (saturates _ _ _ _ _ c.loop-b.invariant.1 c.saturating_mul.ensures c.saturating_add-n.ensures))
 
 pub returns : goal.returns
 returns c =

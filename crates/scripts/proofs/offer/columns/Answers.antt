@@ -29,19 +29,19 @@ returns-then-is_empty c =
     let w = c.in-Some.first.word.now in
     let rest = words c.in-Some.first.rest.now in
     let left = words c.loop-first.left.now in
-    let is-bar : bar w ≡ true = sym (same_from_decides c.same.result (bar w) c.same.ensures (bytes_eq-Decides w (codes "|"))) ∙ c.if-same.true in
+    let is_bar : bar w ≡ true = sym (same_from_decides c.same.result (bar w) c.same.ensures (bytes_eq-Decides w (codes "|"))) ∙ c.if-same.true in
     let none : length (vec_items c.loop-first.column) ≡ 0 = omega (arith, true-eqb _ 0 c.if-is_empty.ensures, c.loop-first.column.ok.0) in
-    λ m. empty_refuted (words c.args.text.now) left _ _ c.loop-first.invariant (pieces bar rest) (pieces_bar left w rest c.in-Some.ensures.words is-bar) none m.0 m.1
+    λ m. empty_refuted (words c.args.text.now) left _ _ c.loop-first.invariant (pieces bar rest) (pieces_bar left w rest c.in-Some.ensures.words is_bar) none m.0 m.1
 
 pub loop-first-preserved-then-same : goal.loop-first-preserved-then-same
 loop-first-preserved-then-same c =
     let w = c.in-Some.first.word.now in
     let rest = words c.in-Some.first.rest.now in
     let left = words c.loop-first.left.now in
-    let is-bar : bar w ≡ true = sym (same_from_decides c.same.result (bar w) c.same.ensures (bytes_eq-Decides w (codes "|"))) ∙ c.if-same.true in
+    let is_bar : bar w ≡ true = sym (same_from_decides c.same.result (bar w) c.same.ensures (bytes_eq-Decides w (codes "|"))) ∙ c.if-same.true in
     let some : 0 < length (vec_items c.loop-first.column) = omega (arith, false-eqb _ 0 c.if-is_empty.ensures, c.loop-first.column.ok.0) in
     moved c.in_ok-push.ensures.items c.new-column-then-same.ensures.items
-    (reading_next (words c.args.text.now) rest _ (reading_close (words c.args.text.now) left _ c.loop-first.column (pieces bar rest) c.loop-first.invariant (pieces_bar left w rest c.in-Some.ensures.words is-bar) some))
+    (reading_next (words c.args.text.now) rest _ (reading_close (words c.args.text.now) left _ c.loop-first.column (pieces bar rest) c.loop-first.invariant (pieces_bar left w rest c.in-Some.ensures.words is_bar) some))
 
 pub returns-in_err-component : goal.returns-in_err-component
 returns-in_err-component c =
@@ -50,19 +50,19 @@ returns-in_err-component c =
     let w = c.in-Some.first.word.now in
     let rest = words c.in-Some.first.rest.now in
     let left = words c.loop-first.left.now in
-    let no-bar : bar w ≡ false = sym (same_from_decides c.same.result (bar w) c.same.ensures (bytes_eq-Decides w (codes "|"))) ∙ c.if-same.false in
+    let no_bar : bar w ≡ false = sym (same_from_decides c.same.result (bar w) c.same.ensures (bytes_eq-Decides w (codes "|"))) ∙ c.if-same.false in
     rw (p.1, p.2)
     (fails_refuted c.in_err-component.field-0.0 ((ns : List ℕ) × Polynomial w ns) ((cs : List Column_vec) × Columns whole cs)
-    (λ never m. word_refuted whole left _ _ c.loop-first.invariant w rest c.in-Some.ensures.words no-bar (λ ns h. never (ns, h)) m.0 m.1) c.in_err-component.ensures)
+    (λ never m. word_refuted whole left _ _ c.loop-first.invariant w rest c.in-Some.ensures.words no_bar (λ ns h. never (ns, h)) m.0 m.1) c.in_err-component.ensures)
 
 pub loop-first-preserved : goal.loop-first-preserved
 loop-first-preserved c =
     let w = c.in-Some.first.word.now in
     let rest = words c.in-Some.first.rest.now in
     let left = words c.loop-first.left.now in
-    let no-bar : bar w ≡ false = sym (same_from_decides c.same.result (bar w) c.same.ensures (bytes_eq-Decides w (codes "|"))) ∙ c.if-same.false in
+    let no_bar : bar w ≡ false = sym (same_from_decides c.same.result (bar w) c.same.ensures (bytes_eq-Decides w (codes "|"))) ∙ c.if-same.false in
     moved refl c.in_ok-push-2.ensures.items
-    (reading_word (words c.args.text.now) left _ _ w rest c.in_ok-component.component c.loop-first.invariant c.in-Some.ensures.words no-bar c.in_ok-component.ensures)
+    (reading_word (words c.args.text.now) left _ _ w rest c.in_ok-component.component c.loop-first.invariant c.in-Some.ensures.words no_bar c.in_ok-component.ensures)
 
 pub returns-then-is_empty-2 : goal.returns-then-is_empty-2
 returns-then-is_empty-2 c =
