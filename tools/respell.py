@@ -16,7 +16,6 @@ import sys
 import members
 
 WORD = r"[^\s(){}\[\].;,@\"«»]+"
-DECLARED = re.compile(r"(?m)^([ ]*)(?:abbrev |unfoldable |pub |data |record )*(" + WORD + r"(?: " + WORD + r")*?)((?: [({][^:\n]*)?) : ")
 ALIAS = re.compile(r" as (" + WORD + r")(?=[,}])")
 USE = re.compile(r"\buse ([^\s;{]+?)\.?(\{[^}]*\})")
 WORDS_OF_ANTT = set("where let in elim use pub abbrev unfoldable record data open module unfolding infixl infixr infix".split())
