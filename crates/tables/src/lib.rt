@@ -8,6 +8,7 @@ use fields::field::Field;
 
 pub mod cells;
 pub mod rows;
+pub mod sizes;
 
 // Sets every place to zero.
 pub fn clear<F: Field>(table: &mut [F])
