@@ -39,6 +39,10 @@ module _ {F R : Type 0} (o : RingOps R) (member : F → R) where
   at_take_past (suc w) (x ∷ xs) zero h = absurd (not-suc-le-zero h)
   at_take_past (suc w) (x ∷ xs) (suc k) h = at_take_past w xs k (le_of_suc-le-suc h)
 
+  -- no coefficient is lost where those that are left out are zero
+  pub at_cut : (xs : List F) (w : ℕ) → Below o w (at o member xs) → at o member (take w xs) ≡ at o member xs
+  at_cut xs w below = fun_ext (λ k. elim (dec_lt k w) [ yes l ↦ at_take w xs k l | no l ↦ at_take_past w xs k (omega arith) ∙ sym (below k (omega arith)) ])
+
   pub at_left : (xs ys : List F) (k : ℕ) → k < length xs → at o member (xs ++ ys) k ≡ at o member xs k
   at_left [] ys k h = absurd (not-suc-le-zero h)
   at_left (x ∷ xs) ys zero h = refl
