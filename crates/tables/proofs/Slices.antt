@@ -13,7 +13,7 @@ use Rattle.algebra.specs.Rings.{RingOps, RingLaws}
 use Rattle.algebra.specs.Series.{series, shift, scale, Below}
 use Rattle.algebra.proofs.Series.{shift_at, shift_low}
 use Rattle.algebra.proofs.Sums.{product_zero}
-use Rattle.tables.specs.Places.{at, Kept, poly_at}
+use Rattle.tables.specs.Places.{at, Cleared, Kept, poly_at}
 use Rattle.tables.proofs.Places.{at_past, at_set_same, at_set_other}
 use Rattle.tables.proofs.Parts.{poly_at_is}
 
@@ -33,7 +33,7 @@ module _ {F R : Type 0} (o : RingOps R) (member : F → R) where
   at_take (suc w) (x ∷ xs) zero h = refl
   at_take (suc w) (x ∷ xs) (suc k) h = at_take w xs k (le_of_suc-le-suc h)
 
-  at_take_past : (w : ℕ) (xs : List F) (k : ℕ) → w ≤ k → at o member (take w xs) k ≡ o.zero
+  pub at_take_past : (w : ℕ) (xs : List F) (k : ℕ) → w ≤ k → at o member (take w xs) k ≡ o.zero
   at_take_past zero xs k h = refl
   at_take_past (suc w) [] k h = refl
   at_take_past (suc w) (x ∷ xs) zero h = absurd (not-suc-le-zero h)
@@ -48,12 +48,35 @@ module _ {F R : Type 0} (o : RingOps R) (member : F → R) where
   at_left (x ∷ xs) ys zero h = refl
   at_left (x ∷ xs) ys (suc k) h = at_left xs ys k (le_of_suc-le-suc h)
 
+  pub cleared_append : (xs ys : List F) → Cleared o member xs → Cleared o member ys → Cleared o member (xs ++ ys)
+  cleared_append [] ys zx zy k = zy k
+  cleared_append (x ∷ xs) ys zx zy zero = zx 0
+  cleared_append (x ∷ xs) ys zx zy (suc k) = cleared_append xs ys (λ j. zx (suc j)) zy k
+
   pub at_right : (xs ys : List F) (k : ℕ) → at o member (xs ++ ys) (length xs + k) ≡ at o member ys k
   at_right [] ys k = ap (at o member ys) (let e : 0 + k ≡ k = omega arith in e)
   at_right (x ∷ xs) ys k = ap (at o member (x ∷ (xs ++ ys))) next ∙ at_right xs ys k
     where
       next : suc (length xs) + k ≡ suc (length xs + k)
       next = omega arith
+
+  -- a front written back where what lies behind it is zero
+  pub put_front : (xs ys : List F) (k : ℕ) → length ys ≡ k → Below o k (at o member xs) → at o member (ys ++ drop k xs) ≡ at o member ys
+  put_front xs ys k size below = fun_ext (λ j. elim (dec_lt j k) [
+    | yes l ↦ at_left ys (drop k xs) j (omega arith)
+    | no l ↦ behind j (j - k) (let e : j ≡ length ys + (j - k) = omega arith in e)
+  ])
+    where
+      behind : (j i : ℕ) → j ≡ length ys + i → at o member (ys ++ drop k xs) j ≡ at o member ys j
+      behind j i e =
+          ap (at o member (ys ++ drop k xs)) e ∙ at_right ys (drop k xs) i ∙ at_drop k xs i ∙ below (k + i) (omega arith) ∙ sym (at_past o member ys j (omega arith))
+
+  -- the parts of a cleared table
+  pub cleared_take : (n : ℕ) (xs : List F) → Cleared o member xs → Cleared o member (take n xs)
+  cleared_take n xs z k = elim (dec_lt k n) [ yes l ↦ at_take n xs k l ∙ z k | no l ↦ at_take_past n xs k (omega arith) ]
+
+  pub cleared_drop : (n : ℕ) (xs : List F) → Cleared o member xs → Cleared o member (drop n xs)
+  cleared_drop n xs z k = at_drop n xs k ∙ z (n + k)
 
   -- the polynomial of a part is that of the slice
   pub part_is : (xs : List F) (base width : ℕ) → at o member (take width (drop base xs)) ≡ poly_at o member xs base width
