@@ -1,5 +1,5 @@
 // The heads and records of the generators, in a buffer.
-ghost use Rattle.std.specs.Prelude.{◌≡◌, ℕ, ◌+◌, ◌*◌, ◌<◌, ◌≤◌, List, map, length};
+ghost use Rattle.std.specs.Prelude.{◌≡◌, ℕ, ◌+◌, ◌*◌, ◌<◌, ◌≤◌, List, map, length, unwrap_or};
 ghost use Rattle.cards.specs.Cards.{Term, terms, generators, records, heads, chains, term_count, link as links};
 ghost use Rattle.cards.specs.Overwriting.{over};
 
@@ -16,12 +16,12 @@ fn count_terms<F: Field>(row: &[F]) -> usize
     row.iter().filter(|x| x.code() != 0).count()
 }
 
-// What points to the terms that are left, of which the first has that number.
-fn link(number: usize, left: usize) -> u8
+// The number of the first of the terms that are left, if there is one.
+fn link(number: usize, left: usize) -> Option<u8>
     requires { number < 256 }
-    ensures { (ts : List Term) → left ≡ length ts → result ≡ links number ts }
+    ensures { (ts : List Term) → left ≡ length ts → unwrap_or result 0 ≡ links number ts }
 {
-    if left == 0 { 0 } else { number as u8 }
+    (left > 0).then_some(number as u8)
 }
 
 // Writes the records of one generator, numbered from a number on, from a place on, and answers the number after them.
@@ -51,7 +51,7 @@ fn write_chain<F: Field>(row: &[F], first: usize, buffer: &mut [u8], place: usiz
     next
 }
 
-// Writes the heads of the first n generators, and answers how many terms these have in all.
+// Writes the heads of the first n generators, 0 for one that is zero, and answers how many terms these have in all.
 pub fn write_heads<F: Field>(n: usize, table: &[F], buffer: &mut [u8]) -> usize
     requires { (n ≤ 8) × ((length table.now ≡ 136) × (length buffer.old ≡ 555)) }
     ensures count { result ≡ term_count (generators n (map (λ x. F.number (F.member x)) table.now)) }
@@ -61,7 +61,7 @@ pub fn write_heads<F: Field>(n: usize, table: &[F], buffer: &mut [u8]) -> usize
     let mut next = 1;
     for (i, row) in table[..WIDTH * n].chunks_exact(WIDTH).enumerate() {
         let count = count_terms(row);
-        buffer[HEADER + i] = link(next, count);
+        buffer[HEADER + i] = link(next, count).unwrap_or(0);
         next += count;
     }
     next - 1

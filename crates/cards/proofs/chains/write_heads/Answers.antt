@@ -1,4 +1,4 @@
-use Rattle.std.proofs.Common.{◌≡◌, ◌<◌, ◌+◌, map, length, sym, ap, ◌∙◌, arith}
+use Rattle.std.proofs.Common.{◌≡◌, ◌+◌, map, length, sym, ap, ◌∙◌, arith}
 use Rattle.std.specs.Iterator.Adapters.{enumerate_source, enumerate_count}
 use Rattle.std.specs.Slice.Iter.{chunks_exact_rest}
 use Rattle.cards.specs.Cards.{terms, heads, term_count}
@@ -24,8 +24,8 @@ loop-i-preserved g c =
       few = omega (arith, steps.2, c.count_terms-count.ensures.bound, full, c.loop-i.invariant.few);
       counted = omega (arith, counts, ap term_count split, c.loop-i.invariant.counted);
       written =
-          heads_step (3 + c.in-Some.i) (3 + enumerate_count c.next.new.self) c.loop-i.next c.count_terms-count.result c.link.result (terms 0 (map (λ x. f.number (f.member x)) row)) _ _ c.loop-i.buffer
-          (omega (arith, steps.1, steps.2)) counts (c.link.ensures _ counts) split
+          heads_step (3 + c.in-Some.i) (3 + enumerate_count c.next.new.self) c.loop-i.next c.count_terms-count.result c.unwrap_or.result (terms 0 (map (λ x. f.number (f.member x)) row)) _ _ c.loop-i.buffer
+          (omega (arith, steps.1, steps.2)) counts (c.unwrap_or.ensures ∙ c.link.ensures _ counts) split
           ∙ ap (λ i. over (3 + i) (heads c.loop-i.next (row_generators (λ x. f.number (f.member x)) (chunks_exact_rest (enumerate_source c.loop-i.i-iterator)))) c.loop-i.buffer) steps.1
           ∙ c.loop-i.invariant.written;
     }
