@@ -3,68 +3,56 @@
 
 #[cfg(test)]
 mod tests {
-    use cards::fault::CardFault;
     use cards::read::read_card;
     use cards::write::write_card;
     use design::draft::Draft;
     use design::fault::DesignFault;
     use fields::fault::Refusal;
     use fields::field::Field;
-    use std::process::Abort;
     use std::test::Fail;
     use tones::Tone;
 
-    // Number, layer and place of the refusal, all 0 for a grant.
-    fn outcome(card: &[u8]) -> (u8, u8, usize) {
-        let mut table = [Tone::T7; 136];
-        match read_card(card, &mut table) {
-            Ok(_) => (0, 0, 0),
-            Err(fault) => (fault.number(), fault.layer().number(), fault.place()),
-        }
-    }
-
-    fn number(r: Result<Draft, CardFault>) -> u8 {
-        match r {
-            Ok(_) => 0,
-            Err(fault) => fault.number(),
-        }
+    // Number, layer and place of the refusal, if there is one.
+    fn refusal(card: &[u8]) -> Option<(u8, u8, usize)> {
+        let fault = read_card(card, &mut [Tone::T7; 136]).err()?;
+        Some((fault.number(), fault.layer().number(), fault.place()))
     }
 
     #[test]
     fn lengths_kinds_and_counts(rt: HostRuntime) {
-        assert_eq!(rt; outcome(&[]), (13, 2, 0));
-        assert_eq!(rt; outcome(&[1, 2]), (13, 2, 0));
-        assert_eq!(rt; outcome(&[1, 2, 1, 1, 0, 3, 1, 0]), (13, 2, 0));
-        assert_eq!(rt; outcome(&[1, 2, 1, 1, 0, 3, 1, 0, 0, 0]), (13, 2, 0));
-        assert_eq!(rt; outcome(&[2, 2, 0, 0, 0]), (14, 2, 0));
-        assert_eq!(rt; outcome(&[1, 1, 0, 0]), (2, 2, 0));
-        assert_eq!(rt; outcome(&[1, 9, 0, 0, 0, 0, 0, 0, 0, 0, 0, 0]), (2, 2, 0));
+        assert_eq!(rt; refusal(&[]), Some((13, 2, 0)));
+        assert_eq!(rt; refusal(&[1, 2]), Some((13, 2, 0)));
+        assert_eq!(rt; refusal(&[1, 2, 1, 1, 0, 3, 1, 0]), Some((13, 2, 0)));
+        assert_eq!(rt; refusal(&[1, 2, 1, 1, 0, 3, 1, 0, 0, 0]), Some((13, 2, 0)));
+        assert_eq!(rt; refusal(&[2, 2, 0, 0, 0]), Some((14, 2, 0)));
+        assert_eq!(rt; refusal(&[1, 1, 0, 0]), Some((2, 2, 0)));
+        assert_eq!(rt;
+            refusal(&[1, 9, 0, 0, 0, 0, 0, 0, 0, 0, 0, 0]),
+            Some((2, 2, 0))
+        );
     }
 
     #[test]
     fn faults_in_the_walk(rt: HostRuntime) {
-        assert_eq!(rt; outcome(&[1, 2, 0, 1, 0]), (15, 2, 3));
-        assert_eq!(rt; outcome(&[1, 2, 0, 0, 1]), (15, 2, 4));
-        assert_eq!(rt; outcome(&[1, 2, 1, 1, 0, 17, 1, 0, 0]), (4, 2, 5));
-        assert_eq!(rt; outcome(&[1, 2, 1, 1, 0, 3, 31, 0, 0]), (5, 1, 6));
-        assert_eq!(rt; outcome(&[1, 2, 1, 1, 0, 3, 0, 1, 0]), (5, 1, 6));
-        assert_eq!(rt; outcome(&[1, 2, 1, 1, 0, 3, 0, 0, 0]), (17, 2, 6));
-        assert_eq!(rt; outcome(&[1, 2, 1, 1, 0, 3, 1, 0, 2]), (15, 2, 8));
+        assert_eq!(rt; refusal(&[1, 2, 0, 1, 0]), Some((15, 2, 3)));
+        assert_eq!(rt; refusal(&[1, 2, 0, 0, 1]), Some((15, 2, 4)));
+        assert_eq!(rt; refusal(&[1, 2, 1, 1, 0, 17, 1, 0, 0]), Some((4, 2, 5)));
+        assert_eq!(rt; refusal(&[1, 2, 1, 1, 0, 3, 31, 0, 0]), Some((5, 1, 6)));
+        assert_eq!(rt; refusal(&[1, 2, 1, 1, 0, 3, 0, 1, 0]), Some((5, 1, 6)));
+        assert_eq!(rt; refusal(&[1, 2, 1, 1, 0, 3, 0, 0, 0]), Some((17, 2, 6)));
+        assert_eq!(rt; refusal(&[1, 2, 1, 1, 0, 3, 1, 0, 2]), Some((15, 2, 8)));
         // A chain that would run in a circle.
-        assert_eq!(rt; outcome(&[1, 2, 1, 1, 0, 3, 1, 0, 1]), (16, 2, 5));
+        assert_eq!(rt; refusal(&[1, 2, 1, 1, 0, 3, 1, 0, 1]), Some((16, 2, 5)));
     }
 
     #[test]
     fn cards_that_pass(rt: HostRuntime) {
         // No records.
-        assert_eq!(rt; outcome(&[1, 2, 0, 0, 0]), (0, 0, 0));
+        assert_eq!(rt; refusal(&[1, 2, 0, 0, 0]), None);
         // Two chains share a record.
-        assert_eq!(rt; outcome(&[1, 2, 1, 1, 1, 3, 5, 0, 0]), (0, 0, 0));
+        assert_eq!(rt; refusal(&[1, 2, 1, 1, 1, 3, 5, 0, 0]), None);
         // A record that no chain reaches is not read.
-        assert_eq!(rt;
-            outcome(&[1, 2, 2, 1, 0, 3, 1, 0, 0, 99, 99, 99, 99]),
-            (0, 0, 0)
-        );
+        assert_eq!(rt; refusal(&[1, 2, 2, 1, 0, 3, 1, 0, 0, 99, 99, 99, 99]), None);
     }
 
     #[test]
@@ -79,21 +67,12 @@ mod tests {
         assert_eq!(rt; table[135].code(), 0);
         let mut short = [Tone::T7; 135];
         let mut long = [Tone::T7; 137];
-        assert_eq!(rt; number(read_card(&[], &mut short)), 1);
-        assert_eq!(rt; number(read_card(&[], &mut long)), 1);
+        assert_eq!(rt; read_card(&[], &mut short).err().map(|fault| fault.number()), Some(1));
+        assert_eq!(rt; read_card(&[], &mut long).err().map(|fault| fault.number()), Some(1));
     }
 
     fn fill(draft: &Draft, table: &mut [Tone]) -> Result<(), DesignFault> {
-        for k in 0..136usize {
-            draft.put(table, k / 17, k % 17, 30)?;
-        }
-        Ok(())
-    }
-
-    fn all_of_code(rt: &impl Abort, table: &[Tone], code: u16) {
-        for x in table {
-            assert_eq!(rt; x.code(), code);
-        }
+        (0..136).try_for_each(|k| draft.put(table, k / 17, k % 17, 30))
     }
 
     #[test]
@@ -105,7 +84,7 @@ mod tests {
         fill(&draft, &mut table)?;
         assert_eq!(rt; write_card(&draft, &table, &mut card)?, 555);
         assert!(rt; read_card(&card, &mut back).is_ok());
-        all_of_code(&rt, &back, 30);
+        assert!(rt; back.iter().all(|x| x.code() == 30));
         Ok(())
     }
 }

@@ -1,7 +1,7 @@
 -- The generators of a table, taken one after the other, and their heads and records. Assumes nothing.
-use Rattle.std.proofs.Common.{◌≡◌, ℕ, suc, ◌+◌, ◌-◌, ◌*◌, ◌<◌, ◌≤◌, List, [], ◌∷◌, ◌++◌, map, length, take, drop, set, sym, ap, ◌∙◌, arith, drop-drop}
+use Rattle.std.proofs.Common.{◌≡◌, ℕ, zero, suc, ◌+◌, ◌*◌, ◌/◌, ◌<◌, ◌≤◌, List, [], ◌∷◌, ◌++◌, map, length, take, drop, set, sym, refl, ap, ap₂, ◌∙◌, arith, length-append}
 use lib.ListN.{length-map}
-use Rattle.std.proofs.lemmas.List.{take-map, drop-map}
+use Rattle.std.proofs.lemmas.List.{take-map, drop-map, take_at, drop_at, drop-take, take-take, length-take}
 use Rattle.cards.specs.Cards.{Term, terms, generators, link, records, heads, chains}
 use Rattle.cards.specs.Overwriting.{over}
 use Rattle.cards.proofs.Overwriting.{set_over, over_append}
@@ -10,27 +10,42 @@ use Rattle.cards.proofs.Terms.{length_records, length_terms}
 pub length_row_terms : {F : Type 0} (code_of : F → ℕ) (row : List F) → length (terms 0 (map code_of row)) ≤ length row
 length_row_terms code_of row = let h = length_terms 0 (map code_of row) in omega (arith, length-map row code_of)
 
-module _ {F : Type 0} (code_of : F → ℕ) (n : ℕ) (table : List F) where
-  -- the generators from i on
-  abbrev pub generators_from : ℕ → List (List Term)
-  generators_from i = generators (n - i) (map code_of (drop (17 * i) table))
+-- codes past the first n rows do not count
+generators_take : (n : ℕ) (cs : List ℕ) → generators n (take (17 * n) cs) ≡ generators n cs
+generators_take zero cs = refl
+generators_take (suc n) cs =
+    let long : 17 * suc n ≡ 17 + 17 * n = omega arith in
+    let first : take 17 (take (17 + 17 * n) cs) ≡ take 17 cs = take-take 17 (17 + 17 * n) cs (omega arith) in
+    ap (λ k. generators (suc n) (take k cs)) long
+    ∙ ap₂ (λ (xs ys : List ℕ). terms 0 xs ∷ generators n ys) first (drop-take 17 (17 * n) cs)
+    ∙ ap (λ gs. terms 0 (take 17 cs) ∷ gs) (generators_take n (drop 17 cs))
 
-  -- the terms of generator i
-  abbrev pub row_terms : ℕ → List Term
-  row_terms i = terms 0 (map code_of (take 17 (drop (17 * i) table)))
+module _ {F : Type 0} (code_of : F → ℕ) where
+  -- the terms of each row of a table that has nothing but whole rows
+  abbrev pub row_generators : List F → List (List Term)
+  row_generators rows = generators (length rows / 17) (map code_of rows)
 
-  pub from_first : generators_from 0 ≡ generators n (map code_of table)
-  from_first = let z : n - 0 ≡ n = omega arith in ap (λ k. generators k (map code_of table)) z
+  pub row_next : (all row rest : List F) → all ≡ row ++ rest → length row ≡ 17 → row_generators all ≡ terms 0 (map code_of row) ∷ row_generators rest
+  row_next all row rest e h =
+      let n : length (row ++ rest) / 17 ≡ suc (length rest / 17) = omega (arith, length-append row rest) in
+      ap row_generators e
+      ∙ ap (λ k. generators k (map code_of (row ++ rest))) n
+      ∙ ap₂ (λ (xs ys : List ℕ). terms 0 xs ∷ generators (length rest / 17) ys)
+      (take-map code_of 17 (row ++ rest) ∙ ap (map code_of) (take_at row rest 17 h))
+      (drop-map code_of 17 (row ++ rest) ∙ ap (map code_of) (drop_at row rest 17 h))
 
-  pub from_next : (i : ℕ) → i < n → generators_from i ≡ row_terms i ∷ generators_from (i + 1)
-  from_next i h =
-      let s : n - i ≡ suc (n - (i + 1)) = omega arith in
-      ap (λ k. generators k (map code_of (drop (17 * i) table))) s
-      ∙ ap (λ l. terms 0 l ∷ generators (n - (i + 1)) (drop 17 (map code_of (drop (17 * i) table)))) (take-map code_of 17 (drop (17 * i) table))
-      ∙ ap (λ l. row_terms i ∷ generators (n - (i + 1)) l) (drop-map code_of 17 (drop (17 * i) table) ∙ ap (map code_of) (drop-drop 17 (17 * i) table ∙ (let m : 17 * i + 17 ≡ 17 * (i + 1) = omega arith in ap (λ k. drop k table) m)))
+  pub row_length : (all row rest : List F) → all ≡ row ++ rest → length row ≡ 17 → length all ≡ 17 + length rest
+  row_length all row rest e h = omega (arith, ap length e, length-append row rest)
 
-  pub from_last : (i : ℕ) → n ≤ i → generators_from i ≡ []
-  from_last i h = let z : n - i ≡ 0 = omega arith in ap (λ k. generators k (map code_of (drop (17 * i) table))) z
+  pub row_none : (rest : List F) → length rest < 17 → row_generators rest ≡ []
+  row_none rest h = let z : length rest / 17 ≡ 0 = omega arith in ap (λ k. generators k (map code_of rest)) z
+
+  pub row_all : (n : ℕ) (table : List F) → 17 * n ≤ length table → row_generators (take (17 * n) table) ≡ generators n (map code_of table)
+  row_all n table h =
+      let k : length (take (17 * n) table) / 17 ≡ n = omega (arith, length-take (17 * n) table) in
+      ap (λ i. generators i (map code_of (take (17 * n) table))) k
+      ∙ ap (generators n) (sym (take-map code_of (17 * n) table))
+      ∙ generators_take n (map code_of table)
 
 -- one head, and the others after it
 pub heads_step : (k k' next count b : ℕ) (ts : List Term) (gs all : List (List Term)) (buffer : List ℕ)

@@ -1,23 +1,38 @@
 // Clearing a buffer, and writing one record into it.
-ghost use Rattle.std.specs.Prelude.{◌≡◌, ◌+◌, ◌/◌, ◌%◌, ◌≤◌, [], ◌∷◌, length, replicate};
+ghost use Rattle.std.specs.Prelude.{◌≡◌, ◌+◌, ◌/◌, ◌%◌, ◌≤◌, [], ◌∷◌, length, replicate, unwrap_or};
 ghost use Rattle.cards.specs.Overwriting.{over};
+
+use crate::sizes::RECORD;
 
 // Sets every byte to zero.
 pub fn clear(buffer: &mut [u8])
     ensures { buffer.new ≡ replicate (length buffer.old) 0 }
 {
-    for b in buffer.iter_mut() {
-        *b = 0;
+    buffer.fill(0);
+}
+
+// A record: a power, the code at it, and the number of the record after it, if there is one.
+#[derive(Clone, Copy)]
+pub struct Record {
+    pub power: u8,
+    pub code: u16,
+    pub next: Option<u8>,
+}
+
+impl Record {
+    // Its bytes on a card: the code's low byte first, and 0 where no record follows.
+    fn to_bytes(self) -> [u8; 4]
+        ensures { result ≡ self.power ∷ self.code % 256 ∷ self.code / 256 ∷ unwrap_or self.next 0 ∷ [] }
+    {
+        let [low, high] = self.code.to_le_bytes();
+        [self.power, low, high, self.next.unwrap_or(0)]
     }
 }
 
 // Writes one record from a place on.
-pub fn write_record(buffer: &mut [u8], at: usize, power: u8, code: u16, next: u8)
+pub fn write_record(buffer: &mut [u8], at: usize, item: Record)
     requires { at + 4 ≤ length buffer.old }
-    ensures { buffer.new ≡ over at (power ∷ code % 256 ∷ code / 256 ∷ next ∷ []) buffer.old }
+    ensures { buffer.new ≡ over at (item.power ∷ item.code % 256 ∷ item.code / 256 ∷ unwrap_or item.next 0 ∷ []) buffer.old }
 {
-    buffer[at] = power;
-    buffer[at + 1] = (code % 256) as u8;
-    buffer[at + 2] = (code / 256) as u8;
-    buffer[at + 3] = next;
+    buffer[at..at + RECORD].copy_from_slice(&item.to_bytes());
 }

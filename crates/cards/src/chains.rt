@@ -1,31 +1,27 @@
 // The heads and records of the generators, in a buffer.
-ghost use Rattle.std.specs.Prelude.{◌≡◌, ℕ, ◌+◌, ◌*◌, ◌<◌, ◌≤◌, List, map, length, take, drop};
+ghost use Rattle.std.specs.Prelude.{◌≡◌, ℕ, ◌+◌, ◌*◌, ◌<◌, ◌≤◌, List, map, length, unwrap_or};
 ghost use Rattle.cards.specs.Cards.{Term, terms, generators, records, heads, chains, term_count, link as links};
 ghost use Rattle.cards.specs.Overwriting.{over};
 
-use crate::bytes::write_record;
+use crate::bytes::{Record, write_record};
+use crate::sizes::{HEADER, RECORD};
 use fields::field::Field;
+use tables::sizes::WIDTH;
 
 // How many coefficients are not zero.
 fn count_terms<F: Field>(row: &[F]) -> usize
     ensures value { result ≡ length (terms 0 (map (λ x. F.number (F.member x)) row.now)) }
     ensures bound { result ≤ length row.now }
 {
-    let mut count = 0;
-    for x in row {
-        if x.code() != 0 {
-            count += 1;
-        }
-    }
-    count
+    row.iter().filter(|x| x.code() != 0).count()
 }
 
-// What points to the terms that are left, of which the first has that number.
-fn link(number: usize, left: usize) -> u8
+// The number of the first of the terms that are left, if there is one.
+fn link(number: usize, left: usize) -> Option<u8>
     requires { number < 256 }
-    ensures { (ts : List Term) → left ≡ length ts → result ≡ links number ts }
+    ensures { (ts : List Term) → left ≡ length ts → unwrap_or result 0 ≡ links number ts }
 {
-    if left == 0 { 0 } else { number as u8 }
+    (left > 0).then_some(number as u8)
 }
 
 // Writes the records of one generator, numbered from a number on, from a place on, and answers the number after them.
@@ -43,23 +39,19 @@ fn write_chain<F: Field>(row: &[F], first: usize, buffer: &mut [u8], place: usiz
         if code != 0 {
             left -= 1;
             next += 1;
-            write_record(buffer, at, power as u8, code, link(next, left));
-            at += 4;
+            let record = Record {
+                power: power as u8,
+                code,
+                next: link(next, left),
+            };
+            write_record(buffer, at, record);
+            at += RECORD;
         }
     }
     next
 }
 
-// The coefficients of generator i.
-fn row<F: Field>(table: &[F], i: usize) -> &[F]
-    requires { 17 * i + 17 ≤ length table.now }
-    ensures value { result.now ≡ take 17 (drop (17 * i) table.now) }
-    ensures len { length result.now ≡ 17 }
-{
-    &table[17 * i..17 * i + 17]
-}
-
-// Writes the heads of the first n generators, and answers how many terms these have in all.
+// Writes the heads of the first n generators, 0 for one that is zero, and answers how many terms these have in all.
 pub fn write_heads<F: Field>(n: usize, table: &[F], buffer: &mut [u8]) -> usize
     requires { (n ≤ 8) × ((length table.now ≡ 136) × (length buffer.old ≡ 555)) }
     ensures count { result ≡ term_count (generators n (map (λ x. F.number (F.member x)) table.now)) }
@@ -67,9 +59,9 @@ pub fn write_heads<F: Field>(n: usize, table: &[F], buffer: &mut [u8]) -> usize
     ensures after { buffer.new ≡ over 3 (heads 1 (generators n (map (λ x. F.number (F.member x)) table.now))) buffer.old }
 {
     let mut next = 1;
-    for i in 0..n {
-        let count = count_terms(row(table, i));
-        buffer[3 + i] = link(next, count);
+    for (i, row) in table[..WIDTH * n].chunks_exact(WIDTH).enumerate() {
+        let count = count_terms(row);
+        buffer[HEADER + i] = link(next, count).unwrap_or(0);
         next += count;
     }
     next - 1
@@ -81,7 +73,7 @@ pub fn write_chains<F: Field>(n: usize, table: &[F], buffer: &mut [u8])
     ensures { buffer.new ≡ over (3 + n) (chains 1 (generators n (map (λ x. F.number (F.member x)) table.now))) buffer.old }
 {
     let mut next = 1;
-    for i in 0..n {
-        next = write_chain(row(table, i), next, buffer, n + 4 * next - 1);
+    for row in table[..WIDTH * n].chunks_exact(WIDTH) {
+        next = write_chain(row, next, buffer, n + RECORD * next - 1);
     }
 }

@@ -7,7 +7,7 @@ use design::fault::DesignFault;
 use fields::fault::{FieldFault, Layer, Refusal};
 use std::fmt;
 
-#[derive(Clone, Copy, PartialEq, Debug)]
+#[derive(Clone, Copy, PartialEq, Eq, Debug)]
 pub enum CardFault {
     // A rule of the design: a table has not its length.
     Design(DesignFault),
@@ -68,11 +68,11 @@ impl Refusal for CardFault {
     fn place(&self) -> usize {
         match self {
             CardFault::Design(fault) => fault.place(),
-            CardFault::PowerTooHigh { place } => *place,
-            CardFault::PowerNotAbove { place } => *place,
-            CardFault::Field { place, .. } => *place,
-            CardFault::ZeroCode { place } => *place,
-            CardFault::NoSuchRecord { place } => *place,
+            CardFault::PowerTooHigh { place }
+            | CardFault::PowerNotAbove { place }
+            | CardFault::Field { place, .. }
+            | CardFault::ZeroCode { place }
+            | CardFault::NoSuchRecord { place } => *place,
             _ => 0,
         }
     }

@@ -5,4 +5,5 @@ mod bytes;
 mod chains;
 pub mod fault;
 pub mod read;
+pub mod sizes;
 pub mod write;

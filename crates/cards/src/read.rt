@@ -1,46 +1,19 @@
 // Reading a card.
-ghost use Rattle.std.specs.Prelude.{◌≡◌, ℕ, ◌+◌, ◌*◌, ◌<◌, ◌≤◌, List, length, IfOk, MatchResult, OnOk};
+ghost use Rattle.std.specs.Prelude.{◌≡◌, ℕ, ◌+◌, ◌*◌, ◌<◌, ◌≤◌, List, length, IfOk, MatchResult, MatchOption, OnOk};
 ghost use Rattle.std.specs.Result.{result_err};
 ghost use Rattle.fields.specs.Questions.{first_no};
 ghost use Rattle.tables.specs.Places.{at, Cleared};
+ghost use Rattle.cards.specs.declared.fault.CardFault.TheVariants.{NoSuchRecord};
 ghost use Rattle.cards.specs.Cards.{Term};
-ghost use Rattle.cards.specs.Chains.{byte, code_at};
+ghost use Rattle.cards.specs.Chains.{byte, code_at, record_start};
 ghost use Rattle.cards.specs.Reading.{read_questions, record_questions, Entered, Stops, Gathered, Halted, Grants, Refuses};
 
 use crate::fault::{CardFault, PlacedFault};
+use crate::sizes::{HEADER, RECORD};
 use design::draft::Draft;
 use design::fault::DesignFault;
 use fields::field::Field;
-
-// Asks what can be asked before the walk.
-fn ask<F: Field>(card: &[u8], long: usize) -> Result<(), CardFault>
-    ensures answer { result_err result ≡ first_no (read_questions F.tag long card.now) }
-    ensures sized { OnOk result ((length card.now ≡ 3 + byte card.now 1 + 4 * byte card.now 2) × (2 ≤ byte card.now 1) × (byte card.now 1 ≤ 8) × (long ≡ 136)) }
-{
-    if long != 136 {
-        return Err(CardFault::Design(DesignFault::TableLength));
-    }
-    if card.len() < 3 || card.len() != 3 + usize::from(card[1]) + 4 * usize::from(card[2]) {
-        return Err(CardFault::Length);
-    }
-    if card[0] != F::kind() {
-        return Err(CardFault::Kind);
-    }
-    if card[1] < 2 || card[1] > 8 {
-        return Err(CardFault::GeneratorCount);
-    }
-    Ok(())
-}
-
-// The element of a code that stands at a place of a card.
-fn element<F: Field>(code: u32, place: usize) -> Result<F, PlacedFault>
-    ensures { MatchResult result (λ x. (code < F.order) × (F.number (F.member x) ≡ code)) (λ e. (F.order ≤ code) × (e.place ≡ place)) }
-{
-    match F::element(code) {
-        Ok(x) => Ok(x),
-        Err(fault) => Err(PlacedFault { fault, place }),
-    }
-}
+use tables::sizes::{GENERATORS, WIDTH};
 
 // What a record holds.
 #[derive(Clone, Copy)]
@@ -49,88 +22,139 @@ pub struct Coefficient<F: Field> {
     element: F,
 }
 
-// Reads the record that starts at a place, where it may stand in a chain above the floor.
-fn read_record<F: Field>(
-    card: &[u8],
-    start: usize,
-    floor: usize,
-) -> Result<Coefficient<F>, CardFault>
-    requires { start + 4 ≤ length card.now }
-    ensures answer { result_err result ≡ first_no (record_questions F.order card.now floor start) }
-    ensures value { IfOk result (λ x. (x.power ≡ byte card.now start) × (F.number (F.member x.element) ≡ code_at card.now (start + 1))) }
-    ensures low { IfOk result (λ x. x.power ≤ 16) }
-{
-    let power = usize::from(card[start]);
-    if power > 16 {
-        return Err(CardFault::PowerTooHigh { place: start });
+// A card whose questions before the walk are answered yes.
+#[derive(Clone, Copy)]
+struct Card<'a> {
+    bytes: &'a [u8],
+    ghost sized: { length bytes.now ≡ 3 + byte bytes.now 1 + 4 * byte bytes.now 2 },
+    ghost low: { 2 ≤ byte bytes.now 1 },
+    ghost high: { byte bytes.now 1 ≤ 8 },
+}
+
+impl<'a> Card<'a> {
+    // Asks what can be asked before the walk.
+    fn parse<F: Field>(bytes: &'a [u8], long: usize) -> Result<Card<'a>, CardFault>
+        ensures answer { result_err result ≡ first_no (read_questions F.tag long bytes.now) }
+        ensures value { IfOk result (λ card. card.bytes.now ≡ bytes.now) }
+        ensures room { OnOk result (long ≡ 136) }
+    {
+        if long != GENERATORS {
+            return Err(CardFault::Design(DesignFault::TableLength));
+        }
+        let [kind, n, m, ..] = bytes else {
+            return Err(CardFault::Length);
+        };
+        if bytes.len() != HEADER + usize::from(*n) + RECORD * usize::from(*m) {
+            return Err(CardFault::Length);
+        }
+        if *kind != F::kind() {
+            return Err(CardFault::Kind);
+        }
+        if !(2..=8).contains(n) {
+            return Err(CardFault::GeneratorCount);
+        }
+        Ok(Card { bytes })
     }
-    if power < floor {
-        return Err(CardFault::PowerNotAbove { place: start });
+
+    // How many generators it has.
+    fn n(&self) -> usize
+        ensures { result ≡ byte self.now.bytes.now 1 }
+    {
+        usize::from(self.bytes[1])
     }
-    let code = u32::from(card[start + 1]) + 256 * u32::from(card[start + 2]);
-    let element = element(code, start + 1)?;
-    if code == 0 {
-        return Err(CardFault::ZeroCode { place: start + 1 });
+
+    // How many records it has.
+    fn m(&self) -> usize
+        ensures { result ≡ byte self.now.bytes.now 2 }
+    {
+        usize::from(self.bytes[2])
     }
-    Ok(Coefficient { power, element })
+
+    // Where the record starts that the link at a place names, if it names one.
+    fn linked(&self, place: usize) -> Result<Option<usize>, CardFault>
+        requires { place < length self.now.bytes.now }
+        ensures { MatchResult result (λ named. MatchOption named (byte self.now.bytes.now place ≡ 0) (λ start. (1 ≤ byte self.now.bytes.now place) × (byte self.now.bytes.now place ≤ byte self.now.bytes.now 2) × (start ≡ record_start self.now.bytes.now place))) (λ f. (byte self.now.bytes.now 2 < byte self.now.bytes.now place) × (f ≡ NoSuchRecord place)) }
+    {
+        let link = usize::from(self.bytes[place]);
+        if link > self.m() {
+            return Err(CardFault::NoSuchRecord { place });
+        }
+        let Some(before) = link.checked_sub(1) else {
+            return Ok(None);
+        };
+        Ok(Some(HEADER + self.n() + RECORD * before))
+    }
+
+    // Reads the record that starts at a place, where it may stand in a chain above the floor.
+    fn coefficient<F: Field>(&self, start: usize, floor: usize) -> Result<Coefficient<F>, CardFault>
+        requires { start + 4 ≤ length self.now.bytes.now }
+        ensures answer { result_err result ≡ first_no (record_questions F.order self.now.bytes.now floor start) }
+        ensures value { IfOk result (λ x. (x.power ≡ byte self.now.bytes.now start) × (F.number (F.member x.element) ≡ code_at self.now.bytes.now (start + 1))) }
+        ensures low { IfOk result (λ x. x.power ≤ 16) }
+    {
+        let power = usize::from(self.bytes[start]);
+        if power >= WIDTH {
+            return Err(CardFault::PowerTooHigh { place: start });
+        }
+        if power < floor {
+            return Err(CardFault::PowerNotAbove { place: start });
+        }
+        let place = start + 1;
+        let code = u16::from_le_bytes([self.bytes[place], self.bytes[place + 1]]);
+        let element = F::element(u32::from(code)).map_err(|fault| PlacedFault { fault, place })?;
+        if code == 0 {
+            return Err(CardFault::ZeroCode { place });
+        }
+        Ok(Coefficient { power, element })
+    }
 }
 
 // Walks the chain that the link at a place enters, and enters its terms into row i of a table, which was zero there.
 fn read_chain<F: Field>(
-    card: &[u8],
+    card: &Card,
     place: usize,
     floor: usize,
     table: &mut [F],
     i: usize,
 ) -> Result<(), CardFault>
-    requires sized { length card.now ≡ 3 + byte card.now 1 + 4 * byte card.now 2 }
-    requires within { place < length card.now }
+    requires within { place < length card.now.bytes.now }
     requires room { 17 * i + 17 ≤ length table.old }
     requires zeros { (k : ℕ) → k < 17 → F.number (at F.ops F.member table.old (17 * i + k)) ≡ 0 }
-    ensures { MatchResult result (λ _. Entered F.ops F.member F.number F.order card.now floor place i table.old table.new) (λ f. (ts : List Term) × Stops F.order card.now ts floor place f) }
+    ensures { MatchResult result (λ _. Entered F.ops F.member F.number F.order card.now.bytes.now floor place i table.old table.new) (λ f. (ts : List Term) × Stops F.order card.now.bytes.now ts floor place f) }
 {
-    let link = usize::from(card[place]);
-    if link > usize::from(card[2]) {
-        return Err(CardFault::NoSuchRecord { place });
-    }
-    if link == 0 {
+    let Some(start) = card.linked(place)? else {
         return Ok(());
-    }
-    let start = 3 + usize::from(card[1]) + 4 * (link - 1);
-    let term = read_record(card, start, floor)?;
+    };
+    let term = card.coefficient::<F>(start, floor)?;
     read_chain(card, start + 3, term.power + 1, table, i)?;
-    table[17 * i + term.power] = term.element;
+    table[WIDTH * i + term.power] = term.element;
     Ok(())
 }
 
 // Walks the chains of all heads, and enters their terms into a table, which was zero.
-fn read_chains<F: Field>(card: &[u8], table: &mut [F]) -> Result<(), CardFault>
-    requires sized { length card.now ≡ 3 + byte card.now 1 + 4 * byte card.now 2 }
-    requires few { byte card.now 1 ≤ 8 }
+fn read_chains<F: Field>(card: &Card, table: &mut [F]) -> Result<(), CardFault>
     requires room { length table.old ≡ 136 }
     requires cleared { Cleared F.ops F.member table.old }
-    ensures { MatchResult result (λ _. Gathered F.ops F.member F.number F.order card.now (byte card.now 1) table.new) (λ f. Halted F.order card.now f) }
+    ensures { MatchResult result (λ _. Gathered F.ops F.member F.number F.order card.now.bytes.now (byte card.now.bytes.now 1) table.new) (λ f. Halted F.order card.now.bytes.now f) }
 {
-    for i in 0..usize::from(card[1]) {
-        read_chain(card, 3 + i, 0, table, i)?;
+    for i in 0..card.n() {
+        read_chain(card, HEADER + i, 0, table, i)?;
     }
     Ok(())
 }
 
-// Walks a card whose questions are answered yes, in a table of its own that is zero, and takes its design over.
+// Walks a card in a table of its own that is zero, and takes its design over.
 fn take_design<F: Field>(
-    card: &[u8],
+    card: &Card,
     table: &mut [F],
     generators: &mut [F],
 ) -> Result<Draft, CardFault>
-    requires sized { length card.now ≡ 3 + byte card.now 1 + 4 * byte card.now 2 }
-    requires few { (2 ≤ byte card.now 1) × (byte card.now 1 ≤ 8) }
     requires room { (length table.old ≡ 136) × (length generators.old ≡ 136) }
     requires cleared { Cleared F.ops F.member table.old }
-    ensures { MatchResult result (λ d. (d.n ≡ byte card.now 1) × Gathered F.ops F.member F.number F.order card.now (byte card.now 1) generators.new) (λ f. Halted F.order card.now f × (generators.new ≡ generators.old)) }
+    ensures { MatchResult result (λ d. (d.n ≡ byte card.now.bytes.now 1) × Gathered F.ops F.member F.number F.order card.now.bytes.now (byte card.now.bytes.now 1) generators.new) (λ f. Halted F.order card.now.bytes.now f × (generators.new ≡ generators.old)) }
 {
     read_chains(card, table)?;
-    let draft = Draft::begin(usize::from(card[1]), generators)?;
+    let draft = Draft::begin(card.n(), generators)?;
     generators.copy_from_slice(table);
     Ok(draft)
 }
@@ -139,7 +163,7 @@ fn take_design<F: Field>(
 pub fn read_card<F: Field>(card: &[u8], generators: &mut [F]) -> Result<Draft, CardFault>
     ensures { MatchResult result (λ d. Grants F.ops F.member F.number F.order F.tag card.now (length generators.old) d.n generators.new) (λ f. Refuses F.order F.tag card.now (length generators.old) f × (generators.new ≡ generators.old)) }
 {
-    ask::<F>(card, generators.len())?;
-    let mut table = [F::zero(); 136];
-    take_design(card, &mut table, generators)
+    let parsed = Card::parse::<F>(card, generators.len())?;
+    let mut table = [F::zero(); GENERATORS];
+    take_design(&parsed, &mut table, generators)
 }

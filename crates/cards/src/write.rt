@@ -5,9 +5,11 @@ ghost use Rattle.cards.specs.Writing.{Writes};
 
 use crate::bytes::clear;
 use crate::chains::{write_chains, write_heads};
+use crate::sizes::{CARD, HEADER, RECORD};
 use design::draft::Draft;
 use design::fault::DesignFault;
 use fields::field::Field;
+use tables::sizes::GENERATORS;
 
 // Writes the card of a design into a buffer of 555 bytes, and answers its length; zeros follow.
 pub fn write_card<F: Field>(
@@ -18,7 +20,7 @@ pub fn write_card<F: Field>(
     ensures written { Writes (λ x. F.number (F.member x)) F.tag draft.now.n generators.now buffer.old result buffer.new }
     ensures read_back { IfOk result (λ long. ReadsBack F.ops F.member F.number F.order F.tag draft.now.n generators.now (take long buffer.new)) }
 {
-    if generators.len() != 136 || buffer.len() != 555 {
+    if generators.len() != GENERATORS || buffer.len() != CARD {
         return Err(DesignFault::TableLength);
     }
     let n = draft.count();
@@ -28,5 +30,5 @@ pub fn write_card<F: Field>(
     let m = write_heads(n, generators, buffer);
     buffer[2] = m as u8;
     write_chains(n, generators, buffer);
-    Ok(3 + n + 4 * m)
+    Ok(HEADER + n + RECORD * m)
 }

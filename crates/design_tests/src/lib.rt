@@ -10,31 +10,28 @@ mod tests {
     use std::test::Fail;
     use tones::Tone;
 
-    // The number of the refusal, 0 for a grant.
-    fn number<T: Drop>(r: Result<T, DesignFault>) -> u8 {
-        match r {
-            Ok(_) => 0,
-            Err(fault) => fault.number(),
-        }
+    // The number of the refusal, if there is one.
+    fn refusal<T: Drop>(r: Result<T, DesignFault>) -> Option<u8> {
+        Some(r.err()?.number())
     }
 
     #[test]
     fn begin_takes_two_to_eight_generators(rt: HostRuntime) {
         let mut table = [Tone::T5; 136];
-        assert_eq!(rt; number(Draft::begin(1, &mut table)), 2);
-        assert_eq!(rt; number(Draft::begin(9, &mut table)), 2);
-        assert_eq!(rt; number(Draft::begin(2, &mut table)), 0);
-        assert_eq!(rt; number(Draft::begin(8, &mut table)), 0);
+        assert_eq!(rt; refusal(Draft::begin(1, &mut table)), Some(2));
+        assert_eq!(rt; refusal(Draft::begin(9, &mut table)), Some(2));
+        assert_eq!(rt; refusal(Draft::begin(2, &mut table)), None);
+        assert_eq!(rt; refusal(Draft::begin(8, &mut table)), None);
     }
 
     #[test]
     fn put_keeps_its_limits(rt: HostRuntime) -> Result<(), Fail> {
         let mut table = [Tone::T0; 136];
         let draft = Draft::begin(8, &mut table)?;
-        assert_eq!(rt; number(draft.put(&mut table, 7, 16, 30)), 0);
-        assert_eq!(rt; number(draft.put(&mut table, 8, 16, 30)), 3);
-        assert_eq!(rt; number(draft.put(&mut table, 7, 17, 30)), 4);
-        assert_eq!(rt; number(draft.put(&mut table, 7, 16, 31)), 5);
+        assert_eq!(rt; refusal(draft.put(&mut table, 7, 16, 30)), None);
+        assert_eq!(rt; refusal(draft.put(&mut table, 8, 16, 30)), Some(3));
+        assert_eq!(rt; refusal(draft.put(&mut table, 7, 17, 30)), Some(4));
+        assert_eq!(rt; refusal(draft.put(&mut table, 7, 16, 31)), Some(5));
         Ok(())
     }
 
@@ -45,14 +42,17 @@ mod tests {
         let mut table = [Tone::T0; 136];
         let mut small = [0u8; 554];
         let mut large = [0u8; 556];
-        assert_eq!(rt; number(Draft::begin(2, &mut short)), 1);
-        assert_eq!(rt; number(Draft::begin(2, &mut long)), 1);
+        assert_eq!(rt; refusal(Draft::begin(2, &mut short)), Some(1));
+        assert_eq!(rt; refusal(Draft::begin(2, &mut long)), Some(1));
         let draft = Draft::begin(2, &mut table)?;
-        assert_eq!(rt; number(draft.put(&mut short, 0, 0, 1)), 1);
-        assert_eq!(rt; number(draft.put(&mut long, 0, 0, 1)), 1);
-        assert_eq!(rt; number(write_card(&draft, &short, &mut [0u8; 555])), 1);
-        assert_eq!(rt; number(write_card(&draft, &table, &mut small)), 1);
-        assert_eq!(rt; number(write_card(&draft, &table, &mut large)), 1);
+        assert_eq!(rt; refusal(draft.put(&mut short, 0, 0, 1)), Some(1));
+        assert_eq!(rt; refusal(draft.put(&mut long, 0, 0, 1)), Some(1));
+        assert_eq!(rt;
+            refusal(write_card(&draft, &short, &mut [0u8; 555])),
+            Some(1)
+        );
+        assert_eq!(rt; refusal(write_card(&draft, &table, &mut small)), Some(1));
+        assert_eq!(rt; refusal(write_card(&draft, &table, &mut large)), Some(1));
         Ok(())
     }
 

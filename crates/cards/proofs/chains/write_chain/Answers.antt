@@ -1,4 +1,4 @@
-use Rattle.std.proofs.Common.{◌≡◌, ◌+◌, length, sym, ap, ◌∙◌, arith}
+use Rattle.std.proofs.Common.{◌≡◌, ◌+◌, length, unwrap_or, sym, ap, ◌∙◌, arith}
 use Rattle.cards.specs.Cards.{link, records}
 use Rattle.cards.specs.Overwriting.{over}
 use Rattle.cards.proofs.Overwriting.{over_nothing}
@@ -30,7 +30,7 @@ loop-power-preserved g c =
             omega (arith, w.next-is, c.loop-power.invariant),
             omega (arith, w.left-is, w.next-is, n, c.loop-power.invariant),
             omega (arith, w.left-is, w.at-is, n, c.if-code-ne0.auto.buffer, c.loop-power.invariant),
-            records_step c.loop-power.at c.loop-power.next c.loop-power.power c.code-code.result w.link.result _ _ c.loop-power.buffer _ _ _
+            records_step c.loop-power.at c.loop-power.next c.loop-power.power c.code-code.result (unwrap_or w.link.result 0) _ _ c.loop-power.buffer _ _ _
                 w.at-is w.next-is (w.buffer-is ∙ w.write_record.ensures) e (w.link.ensures _ (omega (arith, w.left-is, left)) ∙ ap (λ k. link k (terms_from (λ x. f.number (f.member x)) (c.loop-power.power + 1) c.args.row.now)) (sym w.next-is))
                 ∙ c.loop-power.invariant.4,
           )

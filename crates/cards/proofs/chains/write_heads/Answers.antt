@@ -1,42 +1,49 @@
 use Rattle.std.proofs.Common.{◌≡◌, ◌+◌, map, length, sym, ap, ◌∙◌, arith}
+use Rattle.std.specs.Iterator.Adapters.{enumerate_source, enumerate_count}
+use Rattle.std.specs.Slice.Iter.{chunks_exact_rest}
 use Rattle.cards.specs.Cards.{terms, heads, term_count}
 use Rattle.cards.specs.Overwriting.{over}
 use Rattle.cards.proofs.Overwriting.{over_nothing}
-use Rattle.cards.proofs.Generators.{row_terms, from_first, from_next, from_last, heads_step}
+use Rattle.cards.proofs.Generators.{row_generators, row_next, row_length, row_none, row_all, heads_step}
 use Rattle.cards.proofs.chains.write_heads.Goals as goal
-
-pub overflow_add-next : goal.overflow_add-next
-overflow_add-next g c = record { fits = omega (arith, c.count_terms-count.ensures.bound, c.row.ensures.len, c.loop-i.invariant) }
 
 pub loop-i-preserved : goal.loop-i-preserved
 loop-i-preserved g c =
     let f = g.F.Field in
-    let n = c.args.n in
-    let t = c.args.table.now in
-    let i = c.loop-i.i in
-    let e = from_next (λ x. f.number (f.member x)) n t i c.loop-i-test.true in
-    let s = ap term_count e in
-    let ts : c.count_terms-count.result ≡ length (row_terms (λ x. f.number (f.member x)) n t i) = c.count_terms-count.ensures.value ∙ ap (λ l. length (terms 0 (map (λ x. f.number (f.member x)) l))) c.row.ensures.value in (
-      omega (arith, c.loop-i.invariant),
-      omega (arith, c.count_terms-count.ensures.bound, c.row.ensures.len, c.loop-i.invariant),
-      omega (arith, s, ts, c.loop-i.invariant),
-      heads_step (3 + i) (3 + (i + 1)) c.loop-i.next c.count_terms-count.result c.link.result (row_terms (λ x. f.number (f.member x)) n t i) _ _ c.loop-i.buffer (omega arith) ts (c.link.ensures _ ts) e
-          ∙ c.loop-i.invariant.3,
-    )
-
-pub returns : goal.returns
-returns g c =
-    let f = g.F.Field in
-    let e = from_last (λ x. f.number (f.member x)) c.args.n c.args.table.now c.loop-i.i c.loop-i-test.false in
-    let z = from_first (λ x. f.number (f.member x)) c.args.n c.args.table.now in
-    let s = ap term_count e in
-    let a = ap term_count z in
+    let row = c.in-Some.row.now in
+    let steps = c.in-Some.ensures.steps in
+    let step = steps.0.1 in
+    let full : length row ≡ 17 = step.1 ∙ c.loop-i.invariant.size in
+    let long = row_length (λ x. f.number (f.member x)) _ row _ step.0 full in
+    let split = row_next (λ x. f.number (f.member x)) _ row _ step.0 full in
+    let counts = c.count_terms-count.ensures.value in
     record {
-      count = omega (arith, s, a, c.loop-i.invariant);
-      bound = omega (arith, c.loop-i.invariant, c.loop-i.auto.i-end);
-      after =
-          sym (over_nothing (3 + c.loop-i.i) c.loop-i.buffer)
-          ∙ ap (λ gs. over (3 + c.loop-i.i) (heads c.loop-i.next gs) c.loop-i.buffer) (sym e)
-          ∙ c.loop-i.invariant.3
-          ∙ ap (λ gs. over 3 (heads 1 gs) c.args.buffer.now) z;
+      size = steps.0.0 ∙ c.loop-i.invariant.size;
+      rows = omega (arith, steps.2, long, c.loop-i.invariant.rows);
+      one = omega (arith, c.loop-i.invariant.one);
+      few = omega (arith, steps.2, c.count_terms-count.ensures.bound, full, c.loop-i.invariant.few);
+      counted = omega (arith, counts, ap term_count split, c.loop-i.invariant.counted);
+      written =
+          heads_step (3 + c.in-Some.i) (3 + enumerate_count c.next.new.self) c.loop-i.next c.count_terms-count.result c.unwrap_or.result (terms 0 (map (λ x. f.number (f.member x)) row)) _ _ c.loop-i.buffer
+          (omega (arith, steps.1, steps.2)) counts (c.unwrap_or.ensures ∙ c.link.ensures _ counts) split
+          ∙ ap (λ i. over (3 + i) (heads c.loop-i.next (row_generators (λ x. f.number (f.member x)) (chunks_exact_rest (enumerate_source c.loop-i.i-iterator)))) c.loop-i.buffer) steps.1
+          ∙ c.loop-i.invariant.written;
     }
+
+pub returns-clause-count : goal.returns-clause-count
+returns-clause-count g c =
+    let f = g.F.Field in
+    let none = row_none (λ x. f.number (f.member x)) (chunks_exact_rest (enumerate_source c.loop-i.i-iterator)) (omega (arith, c.in-None.ensures.steps.0.1.0, c.loop-i.invariant.size)) in
+    let all = row_all (λ x. f.number (f.member x)) c.args.n c.args.table.now (omega (arith, c.requires)) in
+    omega (arith, ap term_count none, ap term_count all, c.loop-i.invariant.counted)
+
+pub returns-clause-after : goal.returns-clause-after
+returns-clause-after g c =
+    let f = g.F.Field in
+    let k = 3 + enumerate_count c.loop-i.i-iterator in
+    let none = row_none (λ x. f.number (f.member x)) (chunks_exact_rest (enumerate_source c.loop-i.i-iterator)) (omega (arith, c.in-None.ensures.steps.0.1.0, c.loop-i.invariant.size)) in
+    let all = row_all (λ x. f.number (f.member x)) c.args.n c.args.table.now (omega (arith, c.requires)) in
+    sym (over_nothing k c.loop-i.buffer)
+    ∙ ap (λ gs. over k (heads c.loop-i.next gs) c.loop-i.buffer) (sym none)
+    ∙ c.loop-i.invariant.written
+    ∙ ap (λ gs. over 3 (heads 1 gs) c.args.buffer.now) all

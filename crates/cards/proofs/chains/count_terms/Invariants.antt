@@ -1,9 +1,0 @@
-use Rattle.std.proofs.Common.{◌≡◌, ◌+◌, ◌≤◌, length}
-use Rattle.cards.proofs.Terms.{terms_from}
-use Rattle.cards.proofs.chains.count_terms.Given as goal
-
-abbrev pub invariant-loop-x : goal.invariant-loop-x
-invariant-loop-x g l =
-    let f = g.F.Field in
-    (l.count ≤ l.x-index)
-    × (l.count + length (terms_from (λ x. f.number (f.member x)) l.x-index l.row) ≡ length (terms_from (λ x. f.number (f.member x)) 0 l.row))
