@@ -12,7 +12,9 @@ use Rattle.algebra.proofs.Bounds as B
 use Rattle.algebra.proofs.Link.{clean_link}
 use Rattle.tables.proofs.Places.{at_past}
 use Rattle.tables.proofs.Parts.{poly_at_below}
-use Rattle.link.specs.Blocks.{message_series, stream, generator, column, Tells, Encoded, Inverted}
+use Rattle.frames.specs.Rows.{generator_in}
+use Rattle.framing.specs.Framing.{column_in}
+use Rattle.link.specs.Blocks.{message_series, stream, Tells, Encoded, Inverted}
 use Rattle.link.specs.Guarantees.{OptimalFrame, EncodesMessage, TellsEncoded, BringsHome, OneSymbolChangesFew}
 use Rattle.link.proofs.Streams.{stream_past}
 
@@ -29,7 +31,7 @@ module _ {F R : Type 0} (o : RingOps R) (member : F → R) where
           | yes l ↦ written i t h l
           | no l ↦
               stream_past o member n (length message + d) block i t long (omega arith)
-              ∙ sym (B.below_product o L (length message) (suc d) (length message + d) (message_series o member message) (generator o member generators i) (omega arith) (message_below message) (bounded i h) t (omega arith))
+              ∙ sym (B.below_product o L (length message) (suc d) (length message + d) (message_series o member message) (generator_in o member generators i) (omega arith) (message_below message) (bounded i h) t (omega arith))
         ]);
       }
 
@@ -40,7 +42,7 @@ module _ {F R : Type 0} (o : RingOps R) (member : F → R) where
     same : n ≡ suc (n - 1)
     same = omega arith
 
-    columns_polynomial : (j : ℕ) → j < suc (n - 1) → PolynomialVector o (suc (n - 1)) (column o member frame j)
+    columns_polynomial : (j : ℕ) → j < suc (n - 1) → PolynomialVector o (suc (n - 1)) (column_in o member frame j)
     columns_polynomial j h i l = (17, poly_at_below o member frame (136 * j + 17 * i) 17)
 
     -- the block encodes a message of K symbols by the first k polynomials of the row
@@ -48,11 +50,11 @@ module _ {F R : Type 0} (o : RingOps R) (member : F → R) where
     SomeMessage row K block k = (message : ℕ → R) × Encodes o k row K message (stream o member n block)
 
     abbrev IsClean : List F → Type 0
-    IsClean block = Clean o (n - 1) (column o member frame) (stream o member n block)
+    IsClean block = Clean o (n - 1) (column_in o member frame) (stream o member n block)
 
     encoded : (d K : ℕ) (row : ℕ → ℕ → R) (block : List F) → length block ≡ n * (K + d) → OptimalFrame o member n d row frame → IsClean block ↔ SomeMessage row K block (suc (n - 1))
     encoded d K row block long optimal =
-        link.clean (n - 1) row d (column o member frame) (subst (λ k. VectorDegree o k row d) same optimal.degree) columns_polynomial optimal.columns K (stream o member n block)
+        link.clean (n - 1) row d (column_in o member frame) (subst (λ k. VectorDegree o k row d) same optimal.degree) columns_polynomial optimal.columns K (stream o member n block)
         (λ i h t l. stream_past o member n (K + d) block i t long l)
 
     pub tells_encoded : (d K : ℕ) (block : List F) (answer : Bool) → length block ≡ n * (K + d) → Tells (IsClean block) answer → TellsEncoded o member n d K frame block answer
@@ -67,8 +69,8 @@ module _ {F R : Type 0} (o : RingOps R) (member : F → R) where
     brings_home d block table is row message optimal encodes =
         past table message (λ k h. is k h ∙ ap (λ (f : ℕ → R). f k) home) encodes.length
       where
-        home : inverted o (n - 1) (column o member frame) (stream o member n block) ≡ message
-        home = link.inverts (n - 1) row (column o member frame) optimal.columns (length table) message (stream o member n block) (subst (λ k. Encodes o k row (length table) message (stream o member n block)) same encodes)
+        home : inverted o (n - 1) (column_in o member frame) (stream o member n block) ≡ message
+        home = link.inverts (n - 1) row (column_in o member frame) optimal.columns (length table) message (stream o member n block) (subst (λ k. Encodes o k row (length table) message (stream o member n block)) same encodes)
 
     pub one_symbol_changes_few : (block message : List F) → Inverted o member n frame block message → OneSymbolChangesFew o member n frame block message
     one_symbol_changes_few block message is e i t changed other degree h one long is_other =
@@ -80,5 +82,5 @@ module _ {F R : Type 0} (o : RingOps R) (member : F → R) where
           ];
         }
       where
-        few : DifferAtMost (suc e) (inverted o (n - 1) (column o member frame) (stream o member n block)) (inverted o (n - 1) (column o member frame) (stream o member n changed))
-        few = link.one_changed (n - 1) (column o member frame) e (subst (λ k. VectorDegree o k (column o member frame 0) e) same degree) i t (stream o member n block) (stream o member n changed) (omega arith) (λ l k b. one l k (omega arith))
+        few : DifferAtMost (suc e) (inverted o (n - 1) (column_in o member frame) (stream o member n block)) (inverted o (n - 1) (column_in o member frame) (stream o member n changed))
+        few = link.one_changed (n - 1) (column_in o member frame) e (subst (λ k. VectorDegree o k (column_in o member frame 0) e) same degree) i t (stream o member n block) (stream o member n changed) (omega arith) (λ l k b. one l k (omega arith))

@@ -2,26 +2,25 @@
 ghost use Rattle.std.specs.Prelude.{◌≡◌, ℕ, ◌+◌, ◌-◌, ◌*◌, ◌<◌, ◌≤◌, length, IfOk, MatchResult, OnOk};
 ghost use Rattle.algebra.specs.Link.{Clean};
 ghost use Rattle.algebra.specs.Rings.{IsField};
-ghost use Rattle.algebra.specs.Series.{dot, series};
+ghost use Rattle.algebra.specs.Series.{series};
 ghost use Rattle.fields.specs.Questions.{first_no};
+ghost use Rattle.frames.specs.Rows.{generator_in};
+ghost use Rattle.framing.specs.Framing.{column_in};
 ghost use Rattle.std.specs.Result.{result_err};
 ghost use Rattle.tables.specs.Places.{at};
-ghost use Rattle.link.specs.Blocks.{message_series, stream, generator, column, Tells, Encoded, Inverted};
+ghost use Rattle.link.specs.Blocks.{message_series, stream, Tells, Encoded, Inverted};
 ghost use Rattle.link.specs.Guarantees.{EncodesMessage, TellsEncoded, BringsHome, OneSymbolChangesFew};
 ghost use Rattle.link.specs.Questions.{link_questions, symbols_in};
 
 use crate::fault::LinkFault;
-use crate::products::{coefficient, combination};
+use crate::products::Streams;
 use design::fault::DesignFault;
 use design::framed::Framed;
 use fields::field::Field;
-use tables::cells::put;
+use tables::sizes::{FRAME, GENERATORS, WIDTH};
 
-// The number of elements of a generators table: 8 polynomials of 17 coefficients.
-const GENERATORS: usize = 136;
-
-// The number of elements of a frame table: 8 columns of 8 polynomials of 17 coefficients, and the divisor's 17.
-const FRAME: usize = 1105;
+// The longest message.
+const SYMBOLS: usize = 4096;
 
 // The members are a field, as the contract of an inverse says.
 fn is_field<F: Field>()
@@ -49,22 +48,20 @@ fn ask(
     }
     let n = framed.generators();
     let degree = framed.degree();
-    if symbols < 1 || symbols > 4096 || block != n * (symbols + degree) {
+    if !(1..=SYMBOLS).contains(&symbols) || block != n * (symbols + degree) {
         return Err(LinkFault::Length);
     }
     Ok(())
 }
 
 // Writes the symbols of all streams at time t.
-fn encode_time<F: Field>(n: usize, generators: &[F], message: &[F], block: &mut [F], t: usize)
-    requires table { (length generators.now ≡ 136) × (n ≤ 8) }
-    requires time { (t < 8192) × (n * t + n ≤ length block.old) }
-    ensures here { (i : ℕ) → i < n → at F.ops F.member block.new (n * t + i) ≡ (series F.ops).product (message_series F.ops F.member message.now) (generator F.ops F.member generators.now i) t }
-    ensures before { (k : ℕ) → k < n * t → at F.ops F.member block.new k ≡ at F.ops F.member block.old k }
+fn encode_time<F: Field>(generators: &[F], message: &Streams<F>, symbols: &mut [F], t: usize)
+    requires table { (length generators.now ≡ 136) × (length symbols.old ≤ 8) }
+    requires message { message.now.n ≡ 1 }
+    ensures { (i : ℕ) → i < length symbols.old → at F.ops F.member symbols.new i ≡ (series F.ops).product (at F.ops F.member message.now.symbols.now) (generator_in F.ops F.member generators.now i) t }
 {
-    for i in 0..n {
-        let symbol = coefficient(message, 1, message.len(), 0, generators, 17 * i, t);
-        put(block, n * t + i, symbol);
+    for (i, symbol) in symbols.iter_mut().enumerate() {
+        *symbol = message.coefficient(0, &generators[WIDTH * i..][..WIDTH], t);
     }
 }
 
@@ -87,8 +84,14 @@ pub fn encode<F: Field>(
         block.len(),
     )?;
     let n = framed.generators();
-    for t in 0..message.len() + framed.degree() {
-        encode_time(n, generators, message, block, t);
+    let sent = Streams {
+        symbols: message,
+        n: 1,
+        times: message.len(),
+    };
+    // A proof knows the lengths of what `chunks_exact_mut` lent, and not what was written to it.
+    for t in 0..sent.times + framed.degree() {
+        encode_time(generators, &sent, &mut block[n * t..n * (t + 1)], t);
     }
     Ok(())
 }
@@ -107,49 +110,21 @@ pub fn invert<F: Field>(
 {
     ask(framed, FRAME, frame.len(), message.len(), block.len())?;
     is_field::<F>();
-    let n = framed.generators();
-    let times = message.len() + framed.degree();
-    for k in 0..message.len() {
-        let symbol = combination(block, n, times, frame, 0, k);
-        put(message, k, symbol);
+    let streams = Streams {
+        symbols: block,
+        n: framed.generators(),
+        times: message.len() + framed.degree(),
+    };
+    for (k, symbol) in message.iter_mut().enumerate() {
+        *symbol = streams.combination(frame, 0, k);
     }
     Ok(())
-}
-
-// Whether the sums of all check columns have no s^t.
-fn clean_at<F: Field>(block: &[F], n: usize, times: usize, frame: &[F], t: usize) -> bool
-    requires block { (length block.now ≡ n * times) × (n ≤ 8) }
-    requires frame { length frame.now ≡ 1105 }
-    requires time { t < 8192 }
-    ensures { Tells ((j : ℕ) → 1 ≤ j → j < n → dot (series F.ops) n (stream F.ops F.member n block.now) (column F.ops F.member frame.now j) t ≡ F.ops.zero) result }
-{
-    for j in 1..n {
-        if !combination(block, n, times, frame, 136 * j, t).same(F::zero()) {
-            return false;
-        }
-    }
-    true
-}
-
-// Whether a block of so many times is clean.
-fn is_clean<F: Field>(block: &[F], n: usize, times: usize, frame: &[F]) -> bool
-    requires block { (length block.now ≡ n * times) × ((2 ≤ n) × (n ≤ 8)) }
-    requires frame { length frame.now ≡ 1105 }
-    requires time { times < 8000 }
-    ensures { Tells (Clean F.ops (n - 1) (column F.ops F.member frame.now) (stream F.ops F.member n block.now)) result }
-{
-    for t in 0..times + 16 {
-        if !clean_at(block, n, times, frame, t) {
-            return false;
-        }
-    }
-    true
 }
 
 // Whether a block is clean: for each check column the sum over the streams of stream i times component i is zero.
 pub fn check<F: Field>(framed: &Framed, frame: &[F], block: &[F]) -> Result<bool, LinkFault>
     ensures answer { result_err result ≡ first_no (link_questions 1105 (length frame.now) framed.now.n framed.now.degree framed.now.divisor (symbols_in framed.now.n framed.now.degree (length block.now)) (length block.now)) }
-    ensures clean { IfOk result (Tells (Clean F.ops (framed.now.n - 1) (column F.ops F.member frame.now) (stream F.ops F.member framed.now.n block.now))) }
+    ensures clean { IfOk result (Tells (Clean F.ops (framed.now.n - 1) (column_in F.ops F.member frame.now) (stream F.ops F.member framed.now.n block.now))) }
     ensures encoded { IfOk result (TellsEncoded F.ops F.member framed.now.n framed.now.degree (symbols_in framed.now.n framed.now.degree (length block.now)) frame.now block.now) }
     ensures found { (symbols : ℕ) → length block.now ≡ framed.now.n * (symbols + framed.now.degree) → symbols_in framed.now.n framed.now.degree (length block.now) ≡ symbols }
 {
@@ -158,5 +133,10 @@ pub fn check<F: Field>(framed: &Framed, frame: &[F], block: &[F]) -> Result<bool
     let symbols = times.saturating_sub(framed.degree());
     ask(framed, FRAME, frame.len(), symbols, block.len())?;
     is_field::<F>();
-    Ok(is_clean(block, n, times, frame))
+    let streams = Streams {
+        symbols: block,
+        n,
+        times,
+    };
+    Ok(streams.is_clean(frame))
 }

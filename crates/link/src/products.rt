@@ -1,53 +1,77 @@
 // Coefficients of products of streams and polynomials.
-ghost use Rattle.std.specs.Prelude.{◌≡◌, ℕ, ◌+◌, ◌*◌, ◌<◌, ◌≤◌, length};
+ghost use Rattle.std.specs.Prelude.{◌≡◌, ℕ, ◌-◌, ◌*◌, ◌<◌, ◌≤◌, length};
+ghost use Rattle.algebra.specs.Link.{Clean};
 ghost use Rattle.algebra.specs.Series.{dot, series};
-ghost use Rattle.tables.specs.Places.{poly_at};
-ghost use Rattle.link.specs.Blocks.{stream};
+ghost use Rattle.framing.specs.Framing.{column_in};
+ghost use Rattle.tables.specs.Places.{at};
+ghost use Rattle.link.specs.Blocks.{stream, Tells};
 
 use fields::field::Field;
-use tables::cells::get;
+use tables::sizes::{GENERATORS, WIDTH};
 
-// The coefficient of s^t in the product of stream i, of so many times, and a polynomial of 17 coefficients.
-pub fn coefficient<F: Field>(
-    block: &[F],
-    n: usize,
-    times: usize,
-    i: usize,
-    table: &[F],
-    base: usize,
-    t: usize,
-) -> F
-    requires block { (length block.now ≡ n * times) × ((i < n) × (n ≤ 8)) }
-    requires table { base + 17 ≤ length table.now }
-    requires time { t < 8192 }
-    ensures { F.member result ≡ (series F.ops).product (stream F.ops F.member n block.now i) (poly_at F.ops F.member table.now base 17) t }
-{
-    let low = (t + 1).saturating_sub(times);
-    let high = (t + 1).min(17);
-    let mut sum = F::zero();
-    for k in low..high {
-        sum = sum.add(get(table, base + k).multiply(get(block, n * (t - k) + i)));
-    }
-    sum
+// A block of n streams at so many times: the symbol of stream i at time t lies at n t + i.
+#[derive(Drop)]
+pub struct Streams<'a, F> {
+    pub symbols: &'a [F],
+    pub n: usize,
+    pub times: usize,
+    ghost some: { (1 ≤ n) × (1 ≤ times) },
+    ghost few: { (n ≤ 8) × (times < 8192) },
+    ghost whole: { length symbols.now ≡ n * times },
 }
 
-// The coefficient of s^t in the sum over the streams of stream i times the polynomial of 17 coefficients from base + 17 i on.
-pub fn combination<F: Field>(
-    block: &[F],
-    n: usize,
-    times: usize,
-    table: &[F],
-    base: usize,
-    t: usize,
-) -> F
-    requires block { (length block.now ≡ n * times) × (n ≤ 8) }
-    requires table { base + 17 * n ≤ length table.now }
-    requires time { t < 8192 }
-    ensures { F.member result ≡ dot (series F.ops) n (stream F.ops F.member n block.now) (λ i. poly_at F.ops F.member table.now (base + 17 * i) 17) t }
-{
-    let mut sum = F::zero();
-    for i in 0..n {
-        sum = sum.add(coefficient(block, n, times, i, table, base + 17 * i, t));
+impl<'a, F: Field> Streams<'a, F> {
+    // The coefficient of s^t in the product of stream i and a polynomial.
+    pub fn coefficient(&self, i: usize, polynomial: &[F], t: usize) -> F
+        requires { i < self.now.n }
+        ensures { F.member result ≡ (series F.ops).product (stream F.ops F.member self.now.n self.now.symbols.now i) (at F.ops F.member polynomial.now) t }
+    {
+        // The last time up to t that has symbols: they meet the polynomial's coefficients of s^(t - last) and above.
+        let last = t.min(self.times - 1);
+        let symbols = &self.symbols[..self.n * (last + 1)];
+        let coefficients = &polynomial[polynomial.len().min(t - last)..];
+        let mut sum = F::zero();
+        for (coefficient, at_time) in coefficients.iter().zip(symbols.rchunks(self.n)) {
+            sum = sum.add(coefficient.multiply(at_time[i]));
+        }
+        sum
     }
-    sum
+
+    // The coefficient of s^t in the sum over the streams of stream i times component i of column j of a frame.
+    pub fn combination(&self, frame: &[F], j: usize, t: usize) -> F
+        requires { (length frame.now ≡ 1105) × (j < 8) }
+        ensures { F.member result ≡ dot (series F.ops) self.now.n (stream F.ops F.member self.now.n self.now.symbols.now) (column_in F.ops F.member frame.now j) t }
+    {
+        let column = &frame[GENERATORS * j..][..WIDTH * self.n];
+        let mut sum = F::zero();
+        for (i, polynomial) in column.chunks_exact(WIDTH).enumerate() {
+            sum = sum.add(self.coefficient(i, polynomial, t));
+        }
+        sum
+    }
+
+    // Whether the sum of column j of a frame has no s^t.
+    fn vanishes(&self, frame: &[F], j: usize, t: usize) -> bool
+        requires { (length frame.now ≡ 1105) × (j < 8) }
+        ensures { Tells (dot (series F.ops) self.now.n (stream F.ops F.member self.now.n self.now.symbols.now) (column_in F.ops F.member frame.now j) t ≡ F.ops.zero) result }
+    {
+        self.combination(frame, j, t).same(F::zero())
+    }
+
+    // Whether the sums of all check columns have no s^t.
+    fn clean_at(&self, frame: &[F], t: usize) -> bool
+        requires { length frame.now ≡ 1105 }
+        ensures { Tells ((j : ℕ) → 1 ≤ j → j < self.now.n → dot (series F.ops) self.now.n (stream F.ops F.member self.now.n self.now.symbols.now) (column_in F.ops F.member frame.now j) t ≡ F.ops.zero) result }
+    {
+        (1..self.n).all(|j| self.vanishes(frame, j, t))
+    }
+
+    // Whether the block is clean.
+    pub fn is_clean(&self, frame: &[F]) -> bool
+        requires block { 2 ≤ self.now.n }
+        requires frame { length frame.now ≡ 1105 }
+        ensures { Tells (Clean F.ops (self.now.n - 1) (column_in F.ops F.member frame.now) (stream F.ops F.member self.now.n self.now.symbols.now)) result }
+    {
+        (0..self.times + 16).all(|t| self.clean_at(frame, t))
+    }
 }

@@ -15,7 +15,7 @@ use Rattle.design.specs.Frames.{Frames}
 use Rattle.design.specs.Offers.{Offers}
 use Rattle.design.specs.Standing.{StandsFramed}
 use Rattle.link.specs.declared.fault.LinkFault.{LinkFault}
-use Rattle.link.specs.Blocks.{message_series, generator, Tells}
+use Rattle.link.specs.Blocks.{message_series, Tells}
 use Rattle.link.specs.Guarantees.{OptimalFrame, OneSymbolChangesFew}
 use Rattle.link.specs.Questions.{link_questions, symbols_in}
 use Rattle.runs.specs.declared.request.Design.{Design}
@@ -73,7 +73,7 @@ module _ {F R : Type 0} (o : RingOps R) (member : F → R) (laws : FieldLaws o) 
 
   -- a framed design with divisor 1 has what the statements on blocks ask for
   optimal_frame : (x : Framed) (g f : List F) → StandsFramed o member x.n g f x.degree x.divisor x.columns → x.divisor ≡ 0
-      → OptimalFrame o member x.n x.degree (generator o member g) f
+      → OptimalFrame o member x.n x.degree (generator_in o member g) f
   optimal_frame x g f stands none =
       let one = one_of (divisor_in o member f) stands.optimal.divisor.monic (subst (λ (e : ℕ). Degree o (divisor_in o member f) e) none stands.divisor_degree) in
       record {
@@ -91,7 +91,7 @@ module _ {F R : Type 0} (o : RingOps R) (member : F → R) (laws : FieldLaws o) 
       → CheckCall o member x f b r
       → IfOk r (Tells ((message : ℕ → R) × Sent o member x g (symbols_in x.n x.degree (length b)) message b))
   check_promised x g f b (Ok clean) stands call =
-      call.encoded (generator o member g)
+      call.encoded (generator_in o member g)
       (optimal_frame x g f stands (granted_divisor 1105 (length f) x.n x.degree x.divisor (symbols_in x.n x.degree (length b)) (length b) call.answer))
   check_promised x g f b (Err e) stands call = tt
 
@@ -102,7 +102,7 @@ module _ {F R : Type 0} (o : RingOps R) (member : F → R) (laws : FieldLaws o) 
       (λ _. Unit {0})
   invert_promised x g f b m m' (Ok u) stands call =
       let none = granted_divisor 1105 (length f) x.n x.degree x.divisor (length m) (length b) call.answer in
-      (λ message sent. call.home (generator o member g) message (optimal_frame x g f stands none) sent, call.changes)
+      (λ message sent. call.home (generator_in o member g) message (optimal_frame x g f stands none) sent, call.changes)
   invert_promised x g f b m m' (Err e) stands call = tt
 
   -- what frame promises is what a framed design promises

@@ -6,6 +6,8 @@ use Rattle.algebra.specs.Link.{Clean, Encodes}
 use Rattle.algebra.specs.Rings.{RingOps}
 use Rattle.fields.specs.Questions.{first_no}
 use Rattle.tables.specs.Places.{Cleared}
+use Rattle.frames.specs.Rows.{generator_in}
+use Rattle.framing.specs.Framing.{column_in}
 use Rattle.design.specs.declared.draft.Draft.{Draft}
 use Rattle.design.specs.declared.framed.Framed.{Framed}
 use Rattle.design.specs.declared.fault.DesignFault.{DesignFault}
@@ -14,7 +16,7 @@ use Rattle.design.specs.Frames.{Frames, FrameRefused, reopen_questions}
 use Rattle.design.specs.Offers.{Offers, OfferRefused}
 use Rattle.design.specs.Standing.{StandsFramed}
 use Rattle.link.specs.declared.fault.LinkFault.{LinkFault}
-use Rattle.link.specs.Blocks.{message_series, stream, generator, column, Tells, Encoded, Inverted}
+use Rattle.link.specs.Blocks.{message_series, stream, Tells, Encoded, Inverted}
 use Rattle.link.specs.Guarantees.{EncodesMessage, TellsEncoded, BringsHome, OneSymbolChangesFew}
 use Rattle.link.specs.Questions.{link_questions, symbols_in}
 use Rattle.runs.specs.declared.request.Design.{Design}
@@ -60,7 +62,7 @@ module _ {F R : Type 0} (o : RingOps R) (member : F → R) where
   -- check: the first no is the refusal; else whether the block is clean
   pub record CheckCall (x : Framed) (frame block : List F) (r : Result Bool LinkFault) : Type 0 where
     pub answer : result_err r ≡ first_no (link_questions 1105 (length frame) x.n x.degree x.divisor (symbols_in x.n x.degree (length block)) (length block))
-    pub clean : IfOk r (Tells (Clean o (x.n - 1) (column o member frame) (stream o member x.n block)))
+    pub clean : IfOk r (Tells (Clean o (x.n - 1) (column_in o member frame) (stream o member x.n block)))
     pub encoded : IfOk r (TellsEncoded o member x.n x.degree (symbols_in x.n x.degree (length block)) frame block)
 
   -- invert: the first no is the refusal, and leaves the message as it was; else the message is what inverting the block gives
@@ -111,7 +113,7 @@ module _ {F R : Type 0} (o : RingOps R) (member : F → R) where
 
   -- the block encodes that message of L symbols by the generators
   abbrev pub Sent : Framed → (generators : List F) → (L : ℕ) (message : ℕ → R) (block : List F) → Type 0
-  Sent x g L message block = Encodes o x.n (generator o member g) L message (stream o member x.n block)
+  Sent x g L message block = Encodes o x.n (generator_in o member g) L message (stream o member x.n block)
 
   -- What a framed design promises of a granted call on the link: encode sends the message; check says yes exactly where some message was sent;
   -- invert gives the message that was sent, and one changed symbol of the block changes at most (degree of column 0) + 1 symbols of it.

@@ -1,8 +1,20 @@
-use Rattle.std.proofs.Common.{◌∙◌, arith}
-use Rattle.link.specs.Blocks.{column, Inverted}
+use Rattle.std.proofs.Common.{◌∙◌, arith, below_more}
+use Rattle.framing.specs.Framing.{column_in}
+use Rattle.tables.proofs.Places.{at_set_same, at_set_other}
+use Rattle.link.specs.Blocks.{Inverted}
 use Rattle.link.proofs.Guarantees.{brings_home, one_symbol_changes_few}
 use Rattle.link.proofs.Streams.{dot_streams}
 use Rattle.link.proofs.calls.invert.Goals as goal
+
+pub loop-k-preserved : goal.loop-k-preserved
+loop-k-preserved g c =
+    let f = g.F.Field in
+    let framed = c.args.framed.now in
+    below_more _ _
+    (λ k h. at_set_other f.ops f.member c.loop-k.message c.loop-k.k k c.combination.result (λ e. omega arith) ∙ c.loop-k.invariant k h)
+    (at_set_same f.ops f.member c.loop-k.message c.loop-k.k c.combination.result (omega arith)
+    ∙ c.combination.ensures
+    ∙ dot_streams f.ops f.member c.generators.result framed.n c.args.block.now (column_in f.ops f.member c.args.frame.now 0) c.loop-k.k c.generators.ensures framed.low)
 
 pub returns : goal.returns
 returns g c =
@@ -10,8 +22,7 @@ returns g c =
     let framed = c.args.framed.now in
     let frame = c.args.frame.now in
     let block = c.args.block.now in
-    let is : Inverted f.ops f.member framed.n frame block c.loop-k.message =
-    λ k h. c.loop-k.invariant k (omega arith) ∙ dot_streams f.ops f.member c.generators-n.result framed.n block (column f.ops f.member frame 0) k c.generators-n.ensures framed.low in
+    let is : Inverted f.ops f.member framed.n frame block c.loop-k.message = λ k h. c.loop-k.invariant k (omega arith) in
     record {
       answer = c.in_ok-ask.ensures.answer;
       written = is;
