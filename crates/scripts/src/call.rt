@@ -43,12 +43,7 @@ impl FieldName {
             FieldName::Bytes,
             FieldName::TonePairs,
         ];
-        for name in all {
-            if same(word, name.word().as_bytes()) {
-                return Some(name);
-            }
-        }
-        None
+        all.iter().copied().find(|name| same(word, name.word().as_bytes()))
     }
 }
 
@@ -130,12 +125,7 @@ impl Keyword {
             Keyword::Offer,
             Keyword::Show,
         ];
-        for keyword in all {
-            if same(word, keyword.word().as_bytes()) {
-                return Some(keyword);
-            }
-        }
-        None
+        all.iter().copied().find(|keyword| word == keyword.word().as_bytes())
     }
 }
 

@@ -1,6 +1,7 @@
 // A text cut at its marks, and its words.
 ghost use Rattle.std.specs.Prelude.{◌≡◌, ℕ, ◌<◌, ◌≤◌, true, false, [], ◌∷◌, length, IfSome, MatchOption, slice_index};
-ghost use Rattle.scripts.specs.Words.{marks, pieces, first_of, words};
+ghost use Rattle.std.specs.Iterator.{YieldsFirstRef, item_count};
+ghost use Rattle.scripts.specs.Words.{marks, pieces, first_of, words, pieces_left, words_left};
 
 // What parts of a text are cut apart by.
 #[derive(Clone, Copy)]
@@ -34,12 +35,18 @@ fn before(text: &[u8], mark: Mark) -> usize
     ensures none { (k : ℕ) → k < result → marks mark (slice_index text.now k) ≡ false }
     ensures here { result < length text.now → marks mark (slice_index text.now result) ≡ true }
 {
-    for (i, b) in text.iter().enumerate() {
-        if mark.is(*b) {
-            return i;
-        }
-    }
-    text.len()
+    text.iter().position(|b| mark.is(*b)).unwrap_or(text.len())
+}
+
+// How many blanks a text begins with.
+fn blanks(text: &[u8]) -> usize
+    ensures within { result ≤ length text.now }
+    ensures all { (k : ℕ) → k < result → marks Mark.Blank (slice_index text.now k) ≡ true }
+    ensures here { result < length text.now → marks Mark.Blank (slice_index text.now result) ≡ false }
+{
+    text.iter()
+        .position(|b| !Mark::Blank.is(*b))
+        .unwrap_or(text.len())
 }
 
 // A text cut at its first mark: what stands before it, and what after, where there is one.
@@ -56,18 +63,10 @@ pub fn cut_at<'a>(text: &'a [u8], mark: Mark) -> Cut<'a>
     ensures within { length result.piece.now ≤ length text.now }
     ensures shorter { IfSome result.rest (λ x. length x.now < length text.now) }
 {
-    let n = before(text, mark);
-    if n == text.len() {
-        return Cut {
-            piece: text,
-            rest: None,
-        };
-    }
-    let (piece, after) = text.split_at(n);
-    let (_, rest) = after.split_at(1);
+    let (piece, after) = text.split_at(before(text, mark));
     Cut {
         piece,
-        rest: Some(rest),
+        rest: after.get(1..),
     }
 }
 
@@ -83,22 +82,64 @@ pub fn first_word<'a>(text: &'a [u8]) -> Option<First<'a>>
     ensures words { MatchOption result (words text.now ≡ []) (λ x. words text.now ≡ x.word.now ∷ words x.rest.now) }
     ensures shorter { IfSome result (λ x. length x.rest.now < length text.now) }
 {
-    let mut left = text;
-    loop {
-        let cut = cut_at(left, Mark::Blank);
-        let rest = match cut.rest {
-            Some(rest) => rest,
-            None => &[],
-        };
-        if !cut.piece.is_empty() {
-            return Some(First {
-                word: cut.piece,
-                rest,
-            });
+    let (_, left) = text.split_at(blanks(text));
+    if left.is_empty() {
+        return None;
+    }
+    let cut = cut_at(left, Mark::Blank);
+    Some(First {
+        word: cut.piece,
+        rest: cut.rest.unwrap_or(&[]),
+    })
+}
+
+// The pieces of a text that are left, which a mark cuts apart.
+#[derive(Clone, Copy)]
+pub struct Pieces<'a> {
+    pub left: Option<&'a [u8]>,
+    pub mark: Mark,
+}
+
+impl<'a> Pieces<'a> {
+    // The pieces of a whole text.
+    pub fn of(text: &'a [u8], mark: Mark) -> Pieces<'a>
+        ensures { pieces_left result ≡ pieces (marks mark) text.now }
+    {
+        Pieces {
+            left: Some(text),
+            mark,
         }
-        if cut.rest.is_none() {
-            return None;
-        }
-        left = rest;
+    }
+}
+
+impl<'a> Iterator for Pieces<'a> {
+    type Item = &'a [u8];
+
+    ghost next_gives = { YieldsFirstRef pieces_left };
+
+    ghost remaining = { item_count pieces_left };
+
+    fn next(&mut self) -> Option<&'a [u8]> {
+        let cut = cut_at(self.left?, self.mark);
+        self.left = cut.rest;
+        Some(cut.piece)
+    }
+}
+
+// The words of a text that are left.
+#[derive(Clone, Copy)]
+pub struct Words<'a>(pub &'a [u8]);
+
+impl<'a> Iterator for Words<'a> {
+    type Item = &'a [u8];
+
+    ghost next_gives = { YieldsFirstRef words_left };
+
+    ghost remaining = { item_count words_left };
+
+    fn next(&mut self) -> Option<&'a [u8]> {
+        let first = first_word(self.0)?;
+        self.0 = first.rest;
+        Some(first.word)
     }
 }
