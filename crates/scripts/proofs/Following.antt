@@ -13,6 +13,10 @@ pub fails_weaker : (e : Unread) (P Q : Type 0) → (Q → P) → Fails e P → F
 fails_weaker NoFit P Q f h = λ q. h (f q)
 fails_weaker NoMemory P Q f h = tt
 
+pub fails_never : (e : Unread) (P : Type 0) → (P → ⊥) → Fails e P
+fails_never NoFit P f = f
+fails_never NoMemory P f = tt
+
 -- a number at the front of numbers
 pub numbers_head : (ws : List (List ℕ)) (n : ℕ) (ns : List ℕ) → Numbers ws (n ∷ ns) → (n : ℕ) × (rest : List (List ℕ)) × StartsWith ws n rest
 numbers_head [] n ns h = absurd h

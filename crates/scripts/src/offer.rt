@@ -4,9 +4,8 @@ ghost use Rattle.scripts.specs.declared.call.Keyword.TheVariants as key;
 ghost use Rattle.scripts.specs.Meaning.{Polynomial, Columns, Fails, Taken};
 ghost use Rattle.scripts.specs.Words.{words};
 
-use crate::arguments::Unread;
+use crate::arguments::{Unread, numbers};
 use crate::call::Call;
-use crate::number::number;
 use crate::words::{Mark, Pieces, Words};
 use std::alloc::Global;
 
@@ -14,12 +13,7 @@ use std::alloc::Global;
 fn polynomial(heap: Global, word: &[u8]) -> Result<Vec<u32>, Unread>
     ensures { MatchResult result (λ v. Polynomial word.now v.items) (λ e. Fails e ((ns : List ℕ) × Polynomial word.now ns)) }
 {
-    let mut out = Vec::new(heap);
-    for piece in Pieces::of(word, Mark::Comma) {
-        let n = number(piece).ok_or(Unread::NoFit)?;
-        out.push(n)?;
-    }
-    Ok(out)
+    numbers(heap, Pieces::of(word, Mark::Comma))
 }
 
 // The columns between the bars, with a component at least in each.

@@ -1,6 +1,7 @@
 // A text cut at its marks, and its words.
-ghost use Rattle.std.specs.Prelude.{◌≡◌, ℕ, ◌<◌, ◌≤◌, true, false, [], ◌∷◌, length, IfSome, MatchOption, slice_index};
-ghost use Rattle.std.specs.Iterator.{YieldsFirstRef, item_count};
+ghost use Rattle.std.specs.Prelude.{◌≡◌, ℕ, ◌<◌, ◌≤◌, true, false, List, Option, [], ◌∷◌, length, IfSome, MatchOption, slice_index};
+ghost use Rattle.std.proofs.Common.{Bor};
+ghost use Rattle.std.specs.Iterator.{YieldsFirstRef, IsFinite, item_count};
 ghost use Rattle.scripts.specs.Words.{marks, pieces, first_of, words, pieces_left, words_left};
 
 // What parts of a text are cut apart by.
@@ -93,6 +94,18 @@ pub fn first_word<'a>(text: &'a [u8]) -> Option<First<'a>>
     })
 }
 
+// An iterator over parts of a text, which ends.
+pub(crate) trait Parts<'a>: Iterator<Item = &'a [u8]> + Drop {
+    // The parts that are left.
+    ghost parts: { Self → List (List ℕ) };
+
+    ghost may: { (s : Self) → Self.can_next s };
+
+    ghost ends: { (s : Self) → IsFinite (Self.remaining s) };
+
+    ghost steps: { (s : Self) (r : Option (Bor (List ℕ))) (t : Self) → Self.next_gives s r t → YieldsFirstRef parts s r t };
+}
+
 // The pieces of a text that are left, which a mark cuts apart.
 #[derive(Clone, Copy)]
 pub struct Pieces<'a> {
@@ -126,6 +139,16 @@ impl<'a> Iterator for Pieces<'a> {
     }
 }
 
+impl<'a> Parts<'a> for Pieces<'a> {
+    ghost parts = { pieces_left };
+
+    ghost may = { λ _. tt };
+
+    ghost ends = { λ _. tt };
+
+    ghost steps = { λ s r t h. h };
+}
+
 // The words of a text that are left.
 #[derive(Clone, Copy)]
 pub struct Words<'a>(pub &'a [u8]);
@@ -142,4 +165,14 @@ impl<'a> Iterator for Words<'a> {
         self.0 = first.rest;
         Some(first.word)
     }
+}
+
+impl<'a> Parts<'a> for Words<'a> {
+    ghost parts = { words_left };
+
+    ghost may = { λ _. tt };
+
+    ghost ends = { λ _. tt };
+
+    ghost steps = { λ s r t h. h };
 }

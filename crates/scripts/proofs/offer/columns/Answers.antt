@@ -1,0 +1,85 @@
+use Rattle.std.proofs.Common.{◌≡◌, ℕ, ◌<◌, Bool, true, false, Decides, rules, List, [], length, vec_items, codes, Vec, sym, refl, ap, ◌∙◌, subst, arith, true-eqb, false-eqb}
+use Rattle.std.proofs.lemmas.Bool.Decides.{Decides-eqb}
+use Rattle.std.proofs.lemmas.Slice.Eq.{bytes_eq-Decides, slice_eq-Decides}
+use Rattle.std.proofs.lemmas.Result.{err_from_is_err_and}
+use Rattle.std.proofs.lemmas.Bool.Decides.{same_from_decides}
+use Rattle.std.specs.declared.alloc.Global.{Global}
+use Rattle.scripts.specs.Meaning.{Polynomial, Columns, bar}
+use Rattle.scripts.specs.Words.{words, words_left, pieces}
+use Rattle.scripts.proofs.Bars.{Column, Reading, reading_none, reading_word, reading_close, reading_next, pieces_bar, empty_refuted, word_refuted}
+use Rattle.scripts.proofs.Each.{sofar_all}
+use Rattle.scripts.proofs.Following.{fails_refuted}
+use Rattle.scripts.proofs.offer.columns.Goals as goal
+
+abbrev Component_vec : Type 0
+Component_vec = Vec ℕ Global
+
+abbrev Column_vec : Type 0
+Column_vec = Vec (Vec ℕ Global) Global
+
+-- a start, and two equal lists of what was read
+moved : {whole left : List (List ℕ)} {cs ds : List Column_vec} {ps qs : List Component_vec} → cs ≡ ds → ps ≡ qs → Reading whole left ds qs → Reading whole left cs ps
+moved {whole = whole} {left = left} {cs = cs} {qs = qs} e f r =
+    subst (λ (l : List Component_vec). Reading whole left cs l) (sym f) (subst (λ (l : List Column_vec). Reading whole left l qs) (sym e) r)
+
+-- `==` of a word and a bar
+bar_decides : {w v : List ℕ} {r : Bool} → v ≡ codes "|" → Decides r (w ≡ v) → bar w ≡ r
+bar_decides {w = w} {r = r} e d = sym (same_from_decides r (bar w) (subst (λ (u : List ℕ). Decides r (w ≡ u)) e d) (bytes_eq-Decides w (codes "|")))
+
+pub loop-word-init : goal.loop-word-init
+loop-word-init c =
+    let whole = words c.args.text.now in
+    let start : words_left c.into_iter-word-iterator.result ≡ whole = search rules in
+    moved c.new-done.ensures.items c.new-column.ensures.items (rw start (reading_none whole))
+
+pub returns-then-is_empty : goal.returns-then-is_empty
+returns-then-is_empty c =
+    let w = c.in-Some.word.now in
+    let rest = words_left c.next.new.self in
+    let left = words_left c.loop-word.word-iterator in
+    let is_bar : bar w ≡ true = bar_decides c.as_slice.ensures (slice_eq-Decides {A = ℕ} Decides-eqb _ _ _ c.eq.ensures) ∙ c.if-eq.true in
+    let none : length (vec_items c.loop-word.column) ≡ 0 = omega (arith, true-eqb _ 0 c.if-is_empty.ensures, c.loop-word.column.ok.0) in
+    λ m. empty_refuted (words c.args.text.now) left _ _ c.loop-word.invariant (pieces bar rest) (pieces_bar left w rest c.in-Some.ensures.steps is_bar) none m.0 m.1
+
+pub loop-word-preserved-then-eq : goal.loop-word-preserved-then-eq
+loop-word-preserved-then-eq c =
+    let w = c.in-Some.word.now in
+    let rest = words_left c.next.new.self in
+    let left = words_left c.loop-word.word-iterator in
+    let is_bar : bar w ≡ true = bar_decides c.as_slice.ensures (slice_eq-Decides {A = ℕ} Decides-eqb _ _ _ c.eq.ensures) ∙ c.if-eq.true in
+    let some : 0 < length (vec_items c.loop-word.column) = omega (arith, false-eqb _ 0 c.if-is_empty.ensures, c.loop-word.column.ok.0) in
+    moved c.in_ok-push.ensures.items c.new-column-then-eq.ensures.items
+    (reading_next (words c.args.text.now) rest _ (reading_close (words c.args.text.now) left _ c.loop-word.column (pieces bar rest) c.loop-word.invariant (pieces_bar left w rest c.in-Some.ensures.steps is_bar) some))
+
+pub returns-in_err-component : goal.returns-in_err-component
+returns-in_err-component c =
+    let p = err_from_is_err_and c.from_residual-in_err-component.result c.from_residual-in_err-component.ensures.1 in
+    let whole = words c.args.text.now in
+    let w = c.in-Some.word.now in
+    let rest = words_left c.next.new.self in
+    let left = words_left c.loop-word.word-iterator in
+    let no_bar : bar w ≡ false = bar_decides c.as_slice.ensures (slice_eq-Decides {A = ℕ} Decides-eqb _ _ _ c.eq.ensures) ∙ c.if-eq.false in
+    rw (p.1, p.2)
+    (fails_refuted c.in_err-component.field-0.0 ((ns : List ℕ) × Polynomial w ns) ((cs : List Column_vec) × Columns whole cs)
+    (λ never m. word_refuted whole left _ _ c.loop-word.invariant w rest c.in-Some.ensures.steps no_bar (λ ns h. never (ns, h)) m.0 m.1) c.in_err-component.ensures)
+
+pub loop-word-preserved : goal.loop-word-preserved
+loop-word-preserved c =
+    let w = c.in-Some.word.now in
+    let rest = words_left c.next.new.self in
+    let left = words_left c.loop-word.word-iterator in
+    let no_bar : bar w ≡ false = bar_decides c.as_slice.ensures (slice_eq-Decides {A = ℕ} Decides-eqb _ _ _ c.eq.ensures) ∙ c.if-eq.false in
+    moved refl c.in_ok-push-2.ensures.items
+    (reading_word (words c.args.text.now) left _ _ w rest c.in_ok-component.component c.loop-word.invariant c.in-Some.ensures.steps no_bar c.in_ok-component.ensures)
+
+pub returns-then-is_empty-2 : goal.returns-then-is_empty-2
+returns-then-is_empty-2 c =
+    let none : length (vec_items c.loop-word.column) ≡ 0 = omega (arith, true-eqb _ 0 c.if-is_empty-2.ensures, c.loop-word.column.ok.0) in
+    λ m. empty_refuted (words c.args.text.now) (words_left c.loop-word.word-iterator) _ _ c.loop-word.invariant [] (ap (pieces bar) c.in-None.ensures.steps.0) none m.0 m.1
+
+pub returns : goal.returns
+returns c =
+    let some : 0 < length (vec_items c.loop-word.column) = omega (arith, false-eqb _ 0 c.if-is_empty-2.ensures, c.loop-word.column.ok.0) in
+    let whole = words c.args.text.now in
+    subst (λ (l : List Column_vec). Columns whole l) (sym c.in_ok-push-3.ensures.items)
+    (sofar_all Column (pieces bar whole) [] _ (reading_close whole (words_left c.loop-word.word-iterator) _ c.loop-word.column [] c.loop-word.invariant (ap (pieces bar) c.in-None.ensures.steps.0) some) refl)
