@@ -1,15 +1,8 @@
 // The calls of a script.
-ghost use Rattle.std.specs.Prelude.{◌≡◌, Decides, MatchOption, ◌≢◌};
+ghost use Rattle.std.specs.Prelude.{◌≡◌, MatchOption, ◌≢◌};
 ghost use Rattle.scripts.specs.declared.call.FieldName.{FieldName as AField};
 ghost use Rattle.scripts.specs.declared.call.Keyword.{Keyword as AKeyword};
 ghost use Rattle.scripts.specs.Spelling.{spelled, named};
-
-// Whether two words have the same bytes.
-pub(crate) fn same(left: &[u8], right: &[u8]) -> bool
-    ensures { Decides result (left.now ≡ right.now) }
-{
-    left == right
-}
 
 // The fields that a script can name.
 #[derive(Clone, Copy, PartialEq, Eq, Debug)]
@@ -43,7 +36,7 @@ impl FieldName {
             FieldName::Bytes,
             FieldName::TonePairs,
         ];
-        all.iter().copied().find(|name| same(word, name.word().as_bytes()))
+        all.iter().copied().find(|name| word == name.word().as_bytes())
     }
 }
 

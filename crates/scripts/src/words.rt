@@ -1,6 +1,5 @@
 // A text cut at its marks, and its words.
-ghost use Rattle.std.specs.Prelude.{◌≡◌, ℕ, ◌<◌, ◌≤◌, true, false, List, Option, [], ◌∷◌, length, IfSome, MatchOption, slice_index};
-ghost use Rattle.std.proofs.Common.{Bor};
+ghost use Rattle.std.specs.Prelude.{◌≡◌, ℕ, ◌<◌, ◌≤◌, true, false, List, [], ◌∷◌, length, IfSome, MatchOption, slice_index};
 ghost use Rattle.std.specs.Iterator.{YieldsFirstRef, IsFinite, item_count};
 ghost use Rattle.scripts.specs.Words.{marks, pieces, first_of, words, pieces_left, words_left};
 
@@ -22,7 +21,7 @@ impl Mark {
         ensures { result ≡ marks self b }
     {
         match self {
-            Mark::Blank => b == b' ' || b == b'\t' || b == b'\r',
+            Mark::Blank => matches!(b, b' ' | b'\t' | b'\r'),
             Mark::Comma => b == b',',
             Mark::Hash => b == b'#',
             Mark::Newline => b == b'\n',
@@ -103,7 +102,7 @@ pub(crate) trait Parts<'a>: Iterator<Item = &'a [u8]> + Drop {
 
     ghost ends: { (s : Self) → IsFinite (Self.remaining s) };
 
-    ghost steps: { (s : Self) (r : Option (Bor (List ℕ))) (t : Self) → Self.next_gives s r t → YieldsFirstRef parts s r t };
+    ghost steps: { (s : Self) (r : _) (t : Self) → Self.next_gives s r t → YieldsFirstRef parts s r t };
 }
 
 // The pieces of a text that are left, which a mark cuts apart.
@@ -151,7 +150,7 @@ impl<'a> Parts<'a> for Pieces<'a> {
 
 // The words of a text that are left.
 #[derive(Clone, Copy)]
-pub struct Words<'a>(pub &'a [u8]);
+pub(crate) struct Words<'a>(pub(crate) &'a [u8]);
 
 impl<'a> Iterator for Words<'a> {
     type Item = &'a [u8];

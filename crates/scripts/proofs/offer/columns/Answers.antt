@@ -1,14 +1,13 @@
 use Rattle.std.proofs.Common.{◌≡◌, ℕ, ◌<◌, Bool, true, false, Decides, rules, List, [], length, vec_items, codes, Vec, sym, refl, ap, ◌∙◌, subst, arith, true-eqb, false-eqb}
 use Rattle.std.proofs.lemmas.Bool.Decides.{Decides-eqb}
 use Rattle.std.proofs.lemmas.Slice.Eq.{bytes_eq-Decides, slice_eq-Decides}
-use Rattle.std.proofs.lemmas.Result.{err_from_is_err_and}
 use Rattle.std.proofs.lemmas.Bool.Decides.{same_from_decides}
 use Rattle.std.specs.declared.alloc.Global.{Global}
 use Rattle.scripts.specs.Meaning.{Polynomial, Columns, bar}
 use Rattle.scripts.specs.Words.{words, words_left, pieces}
 use Rattle.scripts.proofs.Bars.{Column, Reading, reading_none, reading_word, reading_close, reading_next, pieces_bar, empty_refuted, word_refuted}
 use Rattle.scripts.proofs.Each.{sofar_all}
-use Rattle.scripts.proofs.Following.{fails_refuted}
+use Rattle.scripts.proofs.Following.{refused}
 use Rattle.scripts.proofs.offer.columns.Goals as goal
 
 abbrev Component_vec : Type 0
@@ -53,15 +52,13 @@ loop-word-preserved-then-eq c =
 
 pub returns-in_err-component : goal.returns-in_err-component
 returns-in_err-component c =
-    let p = err_from_is_err_and c.from_residual-in_err-component.result c.from_residual-in_err-component.ensures.1 in
     let whole = words c.args.text.now in
     let w = c.in-Some.word.now in
     let rest = words_left c.next.new.self in
     let left = words_left c.loop-word.word-iterator in
     let no_bar : bar w ≡ false = bar_decides c.as_slice.ensures (slice_eq-Decides {A = ℕ} Decides-eqb _ _ _ c.eq.ensures) ∙ c.if-eq.false in
-    rw (p.1, p.2)
-    (fails_refuted c.in_err-component.field-0.0 ((ns : List ℕ) × Polynomial w ns) ((cs : List Column_vec) × Columns whole cs)
-    (λ never m. word_refuted whole left _ _ c.loop-word.invariant w rest c.in-Some.ensures.steps no_bar (λ ns h. never (ns, h)) m.0 m.1) c.in_err-component.ensures)
+    refused (λ v. Columns whole (vec_items v)) ((cs : List Column_vec) × Columns whole cs) c.from_residual-in_err-component.result _ ((ns : List ℕ) × Polynomial w ns) c.from_residual-in_err-component.ensures.1 c.in_err-component.ensures
+    (λ never m. word_refuted whole left _ _ c.loop-word.invariant w rest c.in-Some.ensures.steps no_bar (λ ns h. never (ns, h)) m.0 m.1)
 
 pub loop-word-preserved : goal.loop-word-preserved
 loop-word-preserved c =
