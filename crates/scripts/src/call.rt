@@ -36,7 +36,9 @@ impl FieldName {
             FieldName::Bytes,
             FieldName::TonePairs,
         ];
-        all.iter().copied().find(|name| word == name.word().as_bytes())
+        all.iter()
+            .copied()
+            .find(|name| word == name.word().as_bytes())
     }
 }
 
@@ -118,7 +120,9 @@ impl Keyword {
             Keyword::Offer,
             Keyword::Show,
         ];
-        all.iter().copied().find(|keyword| word == keyword.word().as_bytes())
+        all.iter()
+            .copied()
+            .find(|keyword| word == keyword.word().as_bytes())
     }
 }
 

@@ -38,17 +38,6 @@ fn before(text: &[u8], mark: Mark) -> usize
     text.iter().position(|b| mark.is(*b)).unwrap_or(text.len())
 }
 
-// How many blanks a text begins with.
-fn blanks(text: &[u8]) -> usize
-    ensures within { result ≤ length text.now }
-    ensures all { (k : ℕ) → k < result → marks Mark.Blank (slice_index text.now k) ≡ true }
-    ensures here { result < length text.now → marks Mark.Blank (slice_index text.now result) ≡ false }
-{
-    text.iter()
-        .position(|b| !Mark::Blank.is(*b))
-        .unwrap_or(text.len())
-}
-
 // A text cut at its first mark: what stands before it, and what after, where there is one.
 #[derive(Clone, Copy)]
 pub struct Cut<'a> {
@@ -82,10 +71,8 @@ pub fn first_word<'a>(text: &'a [u8]) -> Option<First<'a>>
     ensures words { MatchOption result (words text.now ≡ []) (λ x. words text.now ≡ x.word.now ∷ words x.rest.now) }
     ensures shorter { IfSome result (λ x. length x.rest.now < length text.now) }
 {
-    let (_, left) = text.split_at(blanks(text));
-    if left.is_empty() {
-        return None;
-    }
+    let start = text.iter().position(|b| !Mark::Blank.is(*b))?;
+    let (_, left) = text.split_at(start);
     let cut = cut_at(left, Mark::Blank);
     Some(First {
         word: cut.piece,
