@@ -1,5 +1,6 @@
 -- What follows a keyword, number by number.
-use Rattle.std.proofs.Common.{◌≡◌, ℕ, List, [], ◌∷◌, Err, Result, sym, refl, subst, MatchResult}
+use Rattle.std.proofs.Common.{◌≡◌, ℕ, List, [], ◌∷◌, Ok, Err, Result, sym, refl, subst, MatchResult}
+use Rattle.std.specs.Result.{IsErrAnd}
 use Rattle.std.proofs.lemmas.Result.{MatchResult-weaker}
 use Rattle.scripts.specs.declared.arguments.Unread.{Unread}
 use Rattle.scripts.specs.declared.arguments.Unread.TheVariants.{NoFit, NoMemory}
@@ -12,6 +13,10 @@ use Rattle.scripts.specs.Meaning.{Numbers, StartsWith, Fails, Taken, Means}
 pub fails_weaker : (e : Unread) (P Q : Type 0) → (Q → P) → Fails e P → Fails e Q
 fails_weaker NoFit P Q f h = λ q. h (f q)
 fails_weaker NoMemory P Q f h = tt
+
+pub fails_never : (e : Unread) → Fails e ⊥
+fails_never NoFit = λ h. h
+fails_never NoMemory = tt
 
 -- a number at the front of numbers
 pub numbers_head : (ws : List (List ℕ)) (n : ℕ) (ns : List ℕ) → Numbers ws (n ∷ ns) → (n : ℕ) × (rest : List (List ℕ)) × StartsWith ws n rest
@@ -54,11 +59,16 @@ put_taken ws us vs rest i power code r s t u b =
     (λ e f. fails_weaker e (rest ≡ []) ((c : Call) × Means key.Put ws c)
     (λ m. none_numbers rest (starts_tail vs rest code m.1.2 [] u (starts_tail us vs power m.1.1 (m.1.2 ∷ []) t (starts_tail ws us i m.1.0 (m.1.1 ∷ m.1.2 ∷ []) s m.1.3)))) f)
 
--- the exit of a `?`
-pub taken_err : (k : Keyword) (ws : List (List ℕ)) (r : Result Call Unread) (e y : Unread) (P : Type 0) → r ≡ Err y → y ≡ e → Fails e P → ((c : Call) → Means k ws c → P) → Taken k ws r
-taken_err k ws r e y P is same f back =
-    subst (λ (r : Result Call Unread). Taken k ws r) (sym is) (subst (λ (e : Unread). Fails e ((c : Call) × Means k ws c)) (sym same) (fails_weaker e P ((c : Call) × Means k ws c) (λ m. back m.0 m.1) f))
+-- the exit of a `?`: nothing fits, where nothing fitted the call before
+pub refused : {A : Type 0} (R : A → Type 0) (Q : Type 0) (r : Result A Unread) (y : Unread) (P : Type 0) → IsErrAnd r (λ x. x ≡ y) → Fails y P → ((P → ⊥) → Q → ⊥) → MatchResult r R (λ e. Fails e Q)
+refused R Q (Err NoFit) y P is f back = back (subst (λ (e : Unread). Fails e P) (sym is) f)
+refused R Q (Err NoMemory) y P is f back = tt
+refused R Q (Ok x) y P is f back = absurd is
 
-pub fails_refuted : (e : Unread) (P Q : Type 0) → ((P → ⊥) → Q → ⊥) → Fails e P → Fails e Q
-fails_refuted NoFit P Q f h = f h
-fails_refuted NoMemory P Q f h = tt
+-- the same of a call
+pub call_refused : (k : Keyword) (ws : List (List ℕ)) (r : Result Call Unread) (y : Unread) (P : Type 0) → IsErrAnd r (λ x. x ≡ y) → Fails y P → ((c : Call) → Means k ws c → P) → Taken k ws r
+call_refused k ws r y P is f back = refused (Means k ws) ((c : Call) × Means k ws c) r y P is f (λ never m. never (back m.0 m.1))
+
+-- what the same keyword means
+pub means_at : (k m : Keyword) (ws : List (List ℕ)) (c : Call) → k ≡ m → Means m ws c → Means k ws c
+means_at k m ws c e h = subst (λ (k : Keyword). Means k ws c) (sym e) h

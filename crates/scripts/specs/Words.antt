@@ -1,7 +1,9 @@
--- The parts of a text, a list of bytes. The clauses of `cut_at` and `first_word` cite it; it assumes nothing.
-use Rattle.std.specs.Prelude.{ℕ, Bool, cond, ◌||◌, List, [], ◌∷◌, ◌==◌}
+-- The parts of a text, a list of bytes. The clauses of `cut_at` and `first_word`, and the iterators, cite it; it assumes nothing.
+use Rattle.std.specs.Prelude.{ℕ, Bool, cond, ◌||◌, List, [], ◌∷◌, ◌==◌, Some, None}
 use Rattle.scripts.specs.declared.words.Mark.{Mark}
 use Rattle.scripts.specs.declared.words.Mark.TheVariants.{Blank, Comma, Hash, Newline}
+use Rattle.scripts.specs.declared.words.Pieces.{Pieces}
+use Rattle.scripts.specs.declared.words.Words.{Words}
 
 -- whether a byte is that mark: a blank, tab or carriage return; a comma; a hash; a newline
 abbrev pub marks : Mark → ℕ → Bool
@@ -37,3 +39,10 @@ words bs = filled (pieces (marks Blank) bs)
 -- a comment begins with a hash
 abbrev pub uncommented : List ℕ → List ℕ
 uncommented bs = first_of (pieces (marks Hash) bs)
+
+-- what an iterator has left
+abbrev pub pieces_left : Pieces → List (List ℕ)
+pieces_left s = elim s.left [ None ↦ [] | Some x ↦ pieces (marks s.mark) x.now ]
+
+abbrev pub words_left : Words → List (List ℕ)
+words_left s = words s.0.now

@@ -8,7 +8,7 @@ ghost use Rattle.scripts.specs.Words.{words};
 use crate::call::{Call, FieldName, Keyword};
 use crate::number::number;
 use crate::offer::offer;
-use crate::words::first_word;
+use crate::words::{Parts, Words, first_word};
 use std::alloc::{AllocError, AllocFailed, Global};
 
 // Why no call was read.
@@ -27,18 +27,14 @@ impl<T: Drop> From<AllocFailed<T>> for Unread {
     }
 }
 
-// The numbers that a text has as its words.
-fn numbers(heap: Global, text: &[u8]) -> Result<Vec<u32>, Unread>
-    ensures { MatchResult result (λ v. Numbers (words text.now) v.items) (λ e. Fails e ((ns : List ℕ) × Numbers (words text.now) ns)) }
+// The numbers that the parts of a text write.
+pub(crate) fn numbers<'a, P: Parts<'a>>(heap: Global, parts: P) -> Result<Vec<u32>, Unread>
+    ensures { MatchResult result (λ v. Numbers (P.parts parts) v.items) (λ e. Fails e ((ns : List ℕ) × Numbers (P.parts parts) ns)) }
 {
     let mut out = Vec::new(heap);
-    let mut left = text;
-    while let Some(first) = first_word(left) {
-        let Some(n) = number(first.word) else {
-            return Err(Unread::NoFit);
-        };
+    for part in parts {
+        let n = number(part).ok_or(Unread::NoFit)?;
         out.push(n)?;
-        left = first.rest;
     }
     Ok(out)
 }
@@ -57,12 +53,8 @@ fn bare(text: &[u8], call: Call) -> Result<Call, Unread>
 fn field(text: &[u8]) -> Result<Call, Unread>
     ensures { Taken key.Field (words text.now) result }
 {
-    let Some(first) = first_word(text) else {
-        return Err(Unread::NoFit);
-    };
-    let Some(name) = FieldName::of(first.word) else {
-        return Err(Unread::NoFit);
-    };
+    let first = first_word(text).ok_or(Unread::NoFit)?;
+    let name = FieldName::of(first.word).ok_or(Unread::NoFit)?;
     bare(first.rest, Call::Field(name))
 }
 
@@ -77,16 +69,12 @@ struct Counted<'a> {
 fn first_number<'a>(text: &'a [u8]) -> Result<Counted<'a>, Unread>
     ensures { MatchResult result (λ x. StartsWith (words text.now) x.n (words x.rest.now)) (λ e. Fails e ((n : ℕ) × (ws : List (List ℕ)) × StartsWith (words text.now) n ws)) }
 {
-    let Some(first) = first_word(text) else {
-        return Err(Unread::NoFit);
-    };
-    match number(first.word) {
-        Some(n) => Ok(Counted {
-            n,
-            rest: first.rest,
-        }),
-        None => Err(Unread::NoFit),
-    }
+    let first = first_word(text).ok_or(Unread::NoFit)?;
+    let n = number(first.word).ok_or(Unread::NoFit)?;
+    Ok(Counted {
+        n,
+        rest: first.rest,
+    })
 }
 
 // One number.
@@ -126,7 +114,7 @@ fn invert(heap: Global, text: &[u8]) -> Result<Call, Unread>
     ensures { Taken key.Invert (words text.now) result }
 {
     let first = first_number(text)?;
-    let block = numbers(heap, first.rest)?;
+    let block = numbers(heap, Words(first.rest))?;
     Ok(Call::Invert {
         symbols: first.n,
         block,
@@ -145,15 +133,15 @@ pub(crate) fn arguments(heap: Global, keyword: Keyword, text: &[u8]) -> Result<C
         Keyword::Reopen => bare(text, Call::Reopen),
         Keyword::Column => column(text),
         Keyword::Encode => Ok(Call::Encode {
-            message: numbers(heap, text)?,
+            message: numbers(heap, Words(text))?,
         }),
         Keyword::Check => Ok(Call::Check {
-            block: numbers(heap, text)?,
+            block: numbers(heap, Words(text))?,
         }),
         Keyword::Invert => invert(heap, text),
         Keyword::Card => bare(text, Call::Card),
         Keyword::Read => Ok(Call::Read {
-            bytes: numbers(heap, text)?,
+            bytes: numbers(heap, Words(text))?,
         }),
         Keyword::Offer => offer(heap, text),
         Keyword::Show => bare(text, Call::Show),

@@ -1,15 +1,8 @@
 // The calls of a script.
-ghost use Rattle.std.specs.Prelude.{◌≡◌, Decides, MatchOption, ◌≢◌};
+ghost use Rattle.std.specs.Prelude.{◌≡◌, MatchOption, ◌≢◌};
 ghost use Rattle.scripts.specs.declared.call.FieldName.{FieldName as AField};
 ghost use Rattle.scripts.specs.declared.call.Keyword.{Keyword as AKeyword};
 ghost use Rattle.scripts.specs.Spelling.{spelled, named};
-
-// Whether two words have the same bytes.
-pub(crate) fn same(left: &[u8], right: &[u8]) -> bool
-    ensures { Decides result (left.now ≡ right.now) }
-{
-    left == right
-}
 
 // The fields that a script can name.
 #[derive(Clone, Copy, PartialEq, Eq, Debug)]
@@ -43,12 +36,9 @@ impl FieldName {
             FieldName::Bytes,
             FieldName::TonePairs,
         ];
-        for name in all {
-            if same(word, name.word().as_bytes()) {
-                return Some(name);
-            }
-        }
-        None
+        all.iter()
+            .copied()
+            .find(|name| word == name.word().as_bytes())
     }
 }
 
@@ -130,12 +120,9 @@ impl Keyword {
             Keyword::Offer,
             Keyword::Show,
         ];
-        for keyword in all {
-            if same(word, keyword.word().as_bytes()) {
-                return Some(keyword);
-            }
-        }
-        None
+        all.iter()
+            .copied()
+            .find(|keyword| word == keyword.word().as_bytes())
     }
 }
 

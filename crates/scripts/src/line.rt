@@ -52,9 +52,7 @@ pub fn read_line(heap: Global, line: &[u8]) -> Result<Line, AllocError>
     };
     match arguments(heap, keyword, first.rest) {
         Ok(call) => Ok(Line::Call(call)),
-        Err(unread) => match unread {
-            Unread::NoFit => Ok(Line::Wrong(Expected::Arguments(keyword))),
-            Unread::NoMemory => Err(AllocError),
-        },
+        Err(Unread::NoFit) => Ok(Line::Wrong(Expected::Arguments(keyword))),
+        Err(Unread::NoMemory) => Err(AllocError),
     }
 }

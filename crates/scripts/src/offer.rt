@@ -4,29 +4,16 @@ ghost use Rattle.scripts.specs.declared.call.Keyword.TheVariants as key;
 ghost use Rattle.scripts.specs.Meaning.{Polynomial, Columns, Fails, Taken};
 ghost use Rattle.scripts.specs.Words.{words};
 
-use crate::arguments::Unread;
-use crate::call::{Call, same};
-use crate::number::number;
-use crate::words::{Mark, cut_at, first_word};
+use crate::arguments::{Unread, numbers};
+use crate::call::Call;
+use crate::words::{Mark, Pieces, Words};
 use std::alloc::Global;
 
 // The numbers of a polynomial, which commas join.
 fn polynomial(heap: Global, word: &[u8]) -> Result<Vec<u32>, Unread>
     ensures { MatchResult result (λ v. Polynomial word.now v.items) (λ e. Fails e ((ns : List ℕ) × Polynomial word.now ns)) }
 {
-    let mut out = Vec::new(heap);
-    let mut left = word;
-    loop {
-        let cut = cut_at(left, Mark::Comma);
-        let Some(n) = number(cut.piece) else {
-            return Err(Unread::NoFit);
-        };
-        out.push(n)?;
-        let Some(rest) = cut.rest else {
-            return Ok(out);
-        };
-        left = rest;
-    }
+    numbers(heap, Pieces::of(word, Mark::Comma))
 }
 
 // The columns between the bars, with a component at least in each.
@@ -35,20 +22,17 @@ fn columns(heap: Global, text: &[u8]) -> Result<Vec<Vec<Vec<u32>>>, Unread>
 {
     let mut done = Vec::new(heap);
     let mut column = Vec::new(heap);
-    let mut left = text;
-    while let Some(first) = first_word(left) {
-        if same(first.word, b"|") {
+    for word in Words(text) {
+        if word == b"|".as_slice() {
             if column.is_empty() {
                 return Err(Unread::NoFit);
             }
             done.push(column)?;
             column = Vec::new(heap);
-            left = first.rest;
-            continue;
+        } else {
+            let component = polynomial(heap, word)?;
+            column.push(component)?;
         }
-        let component = polynomial(heap, first.word)?;
-        column.push(component)?;
-        left = first.rest;
     }
     if column.is_empty() {
         return Err(Unread::NoFit);

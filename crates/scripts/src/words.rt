@@ -1,6 +1,7 @@
 // A text cut at its marks, and its words.
-ghost use Rattle.std.specs.Prelude.{◌≡◌, ℕ, ◌<◌, ◌≤◌, true, false, [], ◌∷◌, length, IfSome, MatchOption, slice_index};
-ghost use Rattle.scripts.specs.Words.{marks, pieces, first_of, words};
+ghost use Rattle.std.specs.Prelude.{◌≡◌, ℕ, ◌<◌, ◌≤◌, true, false, List, [], ◌∷◌, length, IfSome, MatchOption, slice_index};
+ghost use Rattle.std.specs.Iterator.{YieldsFirstRef, IsFinite, item_count};
+ghost use Rattle.scripts.specs.Words.{marks, pieces, first_of, words, pieces_left, words_left};
 
 // What parts of a text are cut apart by.
 #[derive(Clone, Copy)]
@@ -20,7 +21,7 @@ impl Mark {
         ensures { result ≡ marks self b }
     {
         match self {
-            Mark::Blank => b == b' ' || b == b'\t' || b == b'\r',
+            Mark::Blank => matches!(b, b' ' | b'\t' | b'\r'),
             Mark::Comma => b == b',',
             Mark::Hash => b == b'#',
             Mark::Newline => b == b'\n',
@@ -34,12 +35,7 @@ fn before(text: &[u8], mark: Mark) -> usize
     ensures none { (k : ℕ) → k < result → marks mark (slice_index text.now k) ≡ false }
     ensures here { result < length text.now → marks mark (slice_index text.now result) ≡ true }
 {
-    for (i, b) in text.iter().enumerate() {
-        if mark.is(*b) {
-            return i;
-        }
-    }
-    text.len()
+    text.iter().position(|b| mark.is(*b)).unwrap_or(text.len())
 }
 
 // A text cut at its first mark: what stands before it, and what after, where there is one.
@@ -56,18 +52,10 @@ pub fn cut_at<'a>(text: &'a [u8], mark: Mark) -> Cut<'a>
     ensures within { length result.piece.now ≤ length text.now }
     ensures shorter { IfSome result.rest (λ x. length x.now < length text.now) }
 {
-    let n = before(text, mark);
-    if n == text.len() {
-        return Cut {
-            piece: text,
-            rest: None,
-        };
-    }
-    let (piece, after) = text.split_at(n);
-    let (_, rest) = after.split_at(1);
+    let (piece, after) = text.split_at(before(text, mark));
     Cut {
         piece,
-        rest: Some(rest),
+        rest: after.get(1..),
     }
 }
 
@@ -83,22 +71,94 @@ pub fn first_word<'a>(text: &'a [u8]) -> Option<First<'a>>
     ensures words { MatchOption result (words text.now ≡ []) (λ x. words text.now ≡ x.word.now ∷ words x.rest.now) }
     ensures shorter { IfSome result (λ x. length x.rest.now < length text.now) }
 {
-    let mut left = text;
-    loop {
-        let cut = cut_at(left, Mark::Blank);
-        let rest = match cut.rest {
-            Some(rest) => rest,
-            None => &[],
-        };
-        if !cut.piece.is_empty() {
-            return Some(First {
-                word: cut.piece,
-                rest,
-            });
+    let start = text.iter().position(|b| !Mark::Blank.is(*b))?;
+    let (_, left) = text.split_at(start);
+    let cut = cut_at(left, Mark::Blank);
+    Some(First {
+        word: cut.piece,
+        rest: cut.rest.unwrap_or(&[]),
+    })
+}
+
+// An iterator over parts of a text, which ends.
+pub(crate) trait Parts<'a>: Iterator<Item = &'a [u8]> + Drop {
+    // The parts that are left.
+    ghost parts: { Self → List (List ℕ) };
+
+    ghost may: { (s : Self) → Self.can_next s };
+
+    ghost ends: { (s : Self) → IsFinite (Self.remaining s) };
+
+    ghost steps: { (s : Self) (r : _) (t : Self) → Self.next_gives s r t → YieldsFirstRef parts s r t };
+}
+
+// The pieces of a text that are left, which a mark cuts apart.
+#[derive(Clone, Copy)]
+pub struct Pieces<'a> {
+    pub left: Option<&'a [u8]>,
+    pub mark: Mark,
+}
+
+impl<'a> Pieces<'a> {
+    // The pieces of a whole text.
+    pub fn of(text: &'a [u8], mark: Mark) -> Pieces<'a>
+        ensures { pieces_left result ≡ pieces (marks mark) text.now }
+    {
+        Pieces {
+            left: Some(text),
+            mark,
         }
-        if cut.rest.is_none() {
-            return None;
-        }
-        left = rest;
     }
+}
+
+impl<'a> Iterator for Pieces<'a> {
+    type Item = &'a [u8];
+
+    ghost next_gives = { YieldsFirstRef pieces_left };
+
+    ghost remaining = { item_count pieces_left };
+
+    fn next(&mut self) -> Option<&'a [u8]> {
+        let cut = cut_at(self.left?, self.mark);
+        self.left = cut.rest;
+        Some(cut.piece)
+    }
+}
+
+impl<'a> Parts<'a> for Pieces<'a> {
+    ghost parts = { pieces_left };
+
+    ghost may = { λ _. tt };
+
+    ghost ends = { λ _. tt };
+
+    ghost steps = { λ s r t h. h };
+}
+
+// The words of a text that are left.
+#[derive(Clone, Copy)]
+pub(crate) struct Words<'a>(pub(crate) &'a [u8]);
+
+impl<'a> Iterator for Words<'a> {
+    type Item = &'a [u8];
+
+    ghost next_gives = { YieldsFirstRef words_left };
+
+    ghost remaining = { item_count words_left };
+
+    fn next(&mut self) -> Option<&'a [u8]> {
+        let first = first_word(self.0)?;
+        self.0 = first.rest;
+        Some(first.word)
+    }
+}
+
+impl<'a> Parts<'a> for Words<'a> {
+    ghost parts = { words_left };
+
+    ghost may = { λ _. tt };
+
+    ghost ends = { λ _. tt };
+
+    ghost steps = { λ s r t h. h };
 }

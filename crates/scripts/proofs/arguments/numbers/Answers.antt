@@ -1,15 +1,25 @@
-use Rattle.std.proofs.Common.{ℕ, List, vec_items, sym, subst}
+use Rattle.std.proofs.Common.{◌≡◌, ℕ, List, ◌∷◌, vec_items, sym, subst, rules}
+use Rattle.std.proofs.lemmas.Option.{MatchOption-at_some, MatchOption-at_none}
+use Rattle.scripts.specs.Meaning.{Numbers}
 use Rattle.scripts.specs.Numbers.{Number}
-use Rattle.scripts.specs.Words.{words}
 use Rattle.scripts.proofs.Each.{Sofar, sofar_more, sofar_stuck}
+use Rattle.scripts.proofs.Following.{fails_never, refused}
 use Rattle.scripts.proofs.arguments.numbers.Goals as goal
 
-pub returns-in_default-number : goal.returns-in_default-number
-returns-in_default-number c =
-    λ m. sofar_stuck Number (words c.args.text.now) (words c.loop-first.left.now) _ c.in-Some.first.word.now (words c.in-Some.first.rest.now) c.loop-first.invariant c.in-Some.ensures.words (λ n h. c.in_default-number.ensures h.0) m.0 m.1
+pub returns-in_err-n : goal.returns-in_err-n
+returns-in_err-n g c =
+    let whole = g.P.Parts.parts c.args.parts in
+    let step : g.P.Parts.parts c.loop-part.part-iterator ≡ c.in-Some.part.now ∷ g.P.Parts.parts c.next.new.self = search rules in
+    refused (λ v. Numbers whole (vec_items v)) ((ns : List ℕ) × Numbers whole ns) c.from_residual.result _ ⊥ c.from_residual.ensures.1 (fails_never _) (λ _ m. sofar_stuck Number whole (g.P.Parts.parts c.loop-part.part-iterator) (vec_items c.loop-part.out) c.in-Some.part.now (g.P.Parts.parts c.next.new.self) c.loop-part.invariant.sofar step (λ n h. MatchOption-at_none _ _ c.in_err-n.ensures.ok_part c.number.ensures h.0) m.0 m.1)
 
-pub loop-first-preserved : goal.loop-first-preserved
-loop-first-preserved c =
-    let rest = words c.in-Some.first.rest.now in
-    subst (λ (l : List ℕ). Sofar Number (words c.args.text.now) rest l) (sym c.in_ok-push.ensures.items)
-    (sofar_more Number (words c.args.text.now) (words c.loop-first.left.now) (vec_items c.loop-first.out) c.in-Some.first.word.now rest c.in-Some-number.n c.loop-first.invariant c.in-Some.ensures.words c.in-Some-number.ensures)
+pub loop-part-preserved : goal.loop-part-preserved
+loop-part-preserved g c =
+    let whole = g.P.Parts.parts c.args.parts in
+    let left = g.P.Parts.parts c.next.new.self in
+    let step : g.P.Parts.parts c.loop-part.part-iterator ≡ c.in-Some.part.now ∷ g.P.Parts.parts c.next.new.self = search rules in
+    record {
+      may = search rules;
+      ends = search rules;
+      sofar = subst (λ (l : List ℕ). Sofar Number whole left l) (sym c.in_ok-push.ensures.items)
+          (sofar_more Number whole (g.P.Parts.parts c.loop-part.part-iterator) (vec_items c.loop-part.out) c.in-Some.part.now left c.in_ok-n.n c.loop-part.invariant.sofar step (MatchOption-at_some _ _ c.in_ok-n.n c.in_ok-n.ensures.ok_part c.number.ensures));
+    }

@@ -1,6 +1,5 @@
-use Rattle.std.proofs.Common.{◌≡◌, ◌+◌, ◌*◌, ◌<◌, length, take, ap, ◌∙◌, arith, false-eqb}
+use Rattle.std.proofs.Common.{◌≡◌, ◌+◌, ◌*◌, ◌<◌, length, take, ap, ◌∙◌, arith}
 use Rattle.std.proofs.lemmas.Int.Digits.{digits_value_more, digits_more}
-use Rattle.std.proofs.lemmas.List.{take_all}
 use Rattle.std.specs.Str.Parse.{digits_value}
 use Rattle.scripts.proofs.Decimal.{digit_at, saturates}
 use Rattle.scripts.proofs.number.number.Goals as goal
@@ -16,10 +15,3 @@ loop-b-preserved c =
     let told = c.in_ok-d.ensures in
     let step : digits_value 10 (take (i + 1) word) ≡ digits_value 10 (take i word) * 10 + c.in_ok-d.d = digits_value_more 10 word i in_range ∙ ap (λ d. digits_value 10 (take i word) * 10 + d) told.0 in
     (digits_more 10 word i in_range c.loop-b.invariant.0 (omega (arith, told)), rw step (saturates _ _ _ _ _ c.loop-b.invariant.1 c.saturating_mul.ensures c.saturating_add-n.ensures))
-
-pub returns : goal.returns
-returns c =
-    let all : take c.loop-b.b-index c.args.word.now ≡ c.args.word.now = take_all _ _ c.loop-b-test.false in
-    let some : 0 < length c.args.word.now = omega (arith, false-eqb _ 0 c.if-is_empty.ensures) in
-    let inv = simp all at c.loop-b.invariant in
-    ((some, inv.0), inv.1)

@@ -1,24 +1,23 @@
-use Rattle.std.proofs.Common.{◌≡◌, ◌<◌, [], ◌∷◌, length, sym, ap, ◌∙◌, arith, false-eqb}
-use Rattle.std.proofs.lemmas.Option.{MatchOption-at_some, MatchOption-at_none}
-use Rattle.scripts.specs.Words.{words}
-use Rattle.scripts.proofs.Pieces.{words_more}
+use Rattle.std.proofs.Common.{◌≡◌, ℕ, ◌<◌, length, get_or, true, false, add-zero, ap, sym, ◌∙◌, arith, refl, rules}
+use Rattle.scripts.specs.declared.words.Mark.TheVariants.{Blank}
+use Rattle.scripts.specs.Words.{marks, words}
+use Rattle.scripts.proofs.Pieces.{words_after, words_none, words_first}
 use Rattle.scripts.proofs.words.first_word.Goals as goal
-use Rattle.scripts.proofs.words.first_word.Goals.{in-Some, in-None}
 
-pub returns-then-not-is_empty : goal.returns-then-not-is_empty
-returns-then-not-is_empty c =
-    let some : 0 < length c.cut_at-cut.result.piece.now = omega (arith, false-eqb _ 0 c.if-not-is_empty.ensures) in
-    elim c.match-cut.branch [
-      | in-Some w ↦
-          let at : c.match-cut.rest.now ≡ w.in-Some.rest.now = ap (λ x. x.now) w.rest-is in
-          record {
-            words = sym c.loop-rest.invariant.0 ∙ words_more c.loop-rest.left.now _ _ (MatchOption-at_some _ _ _ w.in-Some.is c.cut_at-cut.ensures.pieces) some ∙ ap (λ l. c.cut_at-cut.result.piece.now ∷ words l) (sym at);
-            shorter = omega (arith, ap length at, MatchOption-at_some _ _ _ w.in-Some.is c.cut_at-cut.ensures.shorter);
-          }
-      | in-None w ↦
-          let at : c.match-cut.rest.now ≡ [] = ap (λ x. x.now) w.rest-is in
-          record {
-            words = sym c.loop-rest.invariant.0 ∙ words_more c.loop-rest.left.now _ _ (MatchOption-at_none _ _ w.in-None.is c.cut_at-cut.ensures.pieces) some ∙ ap (λ l. c.cut_at-cut.result.piece.now ∷ words l) (sym at);
-            shorter = omega (arith, ap length at, c.cut_at-cut.ensures.within);
-          }
-    ]
+pub returns-in_err-start-clause-words : goal.returns-in_err-start-clause-words
+returns-in_err-start-clause-words c =
+    let text = c.args.text.now in
+    let all : (k : ℕ) → k < length text → marks Blank (get_or text k 0) ≡ true = search rules in
+    rw c.from_residual.ensures (words_none text all)
+
+pub returns-clause-words : goal.returns-clause-words
+returns-clause-words c =
+    let text = c.args.text.now in
+    let start = c.in_ok-start.start in
+    let left = c.split_at.result.1.now in
+    let inside : start < length text = search rules in
+    let all : (k : ℕ) → k < start → marks Blank (get_or text k 0) ≡ true = search rules in
+    let here : marks Blank (get_or text start 0) ≡ false = search rules in
+    let no_blank : marks Blank (get_or left 0 0) ≡ false = ap (marks Blank) (c.split_at.ensures.by_index.2 0 0 ∙ ap (λ k. get_or text k 0) (add-zero start)) ∙ here in
+    words_after start text (omega arith) all ∙ ap words (sym c.split_at.ensures.back)
+    ∙ words_first left _ c.cut_at-cut.result.rest _ c.unwrap_or.result (omega (arith, c.split_at.ensures.back_len)) no_blank c.cut_at-cut.ensures.pieces refl c.unwrap_or.ensures

@@ -1,14 +1,27 @@
-use Rattle.std.proofs.Common.{◌≡◌, sym, ◌∙◌, arith, below_more}
-use Rattle.std.proofs.lemmas.Bool.Decides.{not_from_Decides}
+use Rattle.std.proofs.Common.{rules, tests, ◌≡◌, ℕ, List, [], ◌∷◌, refl, lit<}
+use Rattle.std.specs.Prelude.{◌≢◌}
+use Rattle.std.specs.List.{Contains}
+use Rattle.std.proofs.lemmas.Iterator.{first_from_find, YieldsList-from_slice}
+use Rattle.std.proofs.lemmas.Iterator.Consumers.{YieldsList-from_copied}
+use Rattle.std.proofs.lemmas.Bool.Decides.{Decides-eqb}
+use Rattle.std.proofs.lemmas.Slice.Eq.{slice_eq-Decides}
+use Rattle.scripts.specs.declared.call.FieldName.{FieldName}
 use Rattle.scripts.specs.declared.call.FieldName.TheVariants.{Tones, Nibbles, Bytes, TonePairs}
 use Rattle.scripts.specs.Spelling.{named}
+use Rattle.scripts.proofs.Spelled.{first_spelled}
 use Rattle.scripts.proofs.call.FieldName.of.Goals as goal
 
-pub loop-name-preserved : goal.loop-name-preserved
-loop-name-preserved c = below_more _ _ c.loop-name.invariant (λ e. not_from_Decides _ c.same.ensures c.if-same.false (e ∙ sym (c.as_bytes.ensures.value ∙ c.word.ensures)))
+abbrev all : List FieldName
+all = Tones ∷ Nibbles ∷ Bytes ∷ TonePairs ∷ []
+
+every : (f : FieldName) → Contains all f
+every Tones = (0, lit< tt, refl)
+every Nibbles = (1, lit< tt, refl)
+every Bytes = (2, lit< tt, refl)
+every TonePairs = (3, lit< tt, refl)
 
 pub returns : goal.returns
 returns c =
-    λ f.
-    let no = c.loop-name.invariant in
-    elim f as (λ f. c.args.word.now ≡ named f → ⊥) [ Tones ↦ no 0 (omega arith) | Nibbles ↦ no 1 (omega arith) | Bytes ↦ no 2 (omega arith) | TonePairs ↦ no 3 (omega arith) ]
+    let w = c.args.word.now in
+    first_spelled named w all c.find.result every
+    (first_from_find _ _ c.find.result (λ f. w ≡ named f) (λ f. w ≢ named f) c.find.ensures.ran (YieldsList-from_copied (YieldsList-from_slice all cc)) (λ x q k. search (rules, tests, slice_eq-Decides {A = ℕ} Decides-eqb)) (λ x q k. search (rules, tests, slice_eq-Decides {A = ℕ} Decides-eqb)))
