@@ -1,124 +1,145 @@
 // Frames of 8 random generators of degree 16, and blocks of 4,096 symbols.
-use crate::rows;
+use bench_support::bench::Bench;
 use design::draft::Draft;
 use design::framed::Framed;
 use fields::field::Field;
 use link::calls::{check, encode, invert};
-use std::io;
-use std::time::Instant;
+use random::Random;
+use std::alloc::{AllocError, Global};
+use std::{fmt, io};
+use tables::sizes::{FRAME, GENERATORS, WORK};
 
 const FRAMES: u32 = 1000;
 
 const BLOCKS: u32 = 20;
 
-// A draft of n generators whose codes look random, of degree 16.
-pub fn draft<F: Field>(n: usize, generators: &mut [F]) -> Option<Draft> {
-    let draft = Draft::begin(n, generators).ok()?;
-    rows::fill(generators);
-    Some(draft)
+// The symbols of a message, and of each stream of its block.
+const MESSAGE: usize = 4096;
+
+const STREAM: usize = 4112;
+
+// A table of so many zeros.
+fn zeros<F: Field>(heap: Global, long: usize) -> Result<Vec<F>, AllocError> {
+    let mut table = Vec::with_capacity(heap, long)?;
+    for _ in 0..long {
+        table.push(F::zero())?;
+    }
+    Ok(table)
 }
 
-// Frames a draft and reopens it, again and again.
-fn frame_again<F: Field>(
-    draft: Draft,
-    generators: &[F],
-    frame: &mut [F],
-    work: &mut [F],
-) -> Option<Framed> {
-    let mut draft = draft;
-    for _ in 0..FRAMES {
-        let framed = draft.frame(generators, frame, work).ok()?;
-        draft = framed.reopen(frame).ok()?;
+// A framed design, in words.
+#[derive(Drop)]
+struct FramedText(Framed);
+
+impl fmt::Display for FramedText {
+    fn fmt<W: fmt::Write>(&self, f: &mut fmt::Formatter<W>) -> fmt::Result {
+        let degree = self.0.degree();
+        let [first, ..] = self.0.columns().to_le_bytes();
+        write!(f, "of degree {degree}, column 0 of degree {first}")
     }
-    draft.frame(generators, frame, work).ok()
 }
 
-// The degree of the column 0 of the frame of 8 generators.
-pub fn run_frames<F: Field>(
-    rt: &HostRuntime,
-    name: &str,
-    generators: &mut [F],
-    frame: &mut [F],
-    work: &mut [F],
-    timed: bool,
-) -> io::Result<()> {
-    let start = Instant::now(rt)?;
-    let framed = match draft(8, generators) {
-        Some(draft) => frame_again(draft, generators, frame, work),
-        None => None,
-    };
-    if let Some(framed) = framed {
-        let degree = framed.degree();
-        let [first, ..] = framed.columns().to_le_bytes();
-        println!(rt; "{name}: of degree {degree}, column 0 of degree {first}")?;
-    }
-    if timed {
-        let micros = start.elapsed(rt)?.as_micros();
-        println!(rt; "{name}: {micros} microseconds")?;
-    }
-    Ok(())
+// The tables that a design lends.
+#[derive(Drop)]
+struct Tables<F: Field> {
+    generators: Vec<F>,
+    frame: Vec<F>,
+    work: Vec<F>,
 }
 
-// Whether every one of so many encodings was granted.
-fn encode_again<F: Field>(
-    framed: &Framed,
-    generators: &[F],
-    message: &[F],
-    block: &mut [F],
-) -> bool {
-    let mut granted = true;
+impl<F: Field> Tables<F> {
+    fn zeros(heap: Global) -> Result<Tables<F>, AllocError> {
+        Ok(Tables {
+            generators: zeros(heap, GENERATORS)?,
+            frame: zeros(heap, FRAME)?,
+            work: zeros(heap, WORK)?,
+        })
+    }
+
+    // A draft of n generators whose codes look random, of degree 16.
+    fn draft(&mut self, n: usize) -> Option<Draft> {
+        let draft = Draft::begin(n, &mut self.generators).ok()?;
+        Random::seeded(1).fill(&mut self.generators);
+        Some(draft)
+    }
+
+    fn frame(&mut self, draft: Draft) -> Option<Framed> {
+        draft
+            .frame(&self.generators, &mut self.frame, &mut self.work)
+            .ok()
+    }
+
+    // Frames a draft of 8 generators and reopens it, again and again.
+    fn frame_again(&mut self) -> Option<FramedText> {
+        let mut draft = self.draft(8)?;
+        for _ in 0..FRAMES {
+            let framed = self.frame(draft)?;
+            draft = framed.reopen(&mut self.frame).ok()?;
+        }
+        self.frame(draft).map(FramedText)
+    }
+}
+
+// Whether a call answers yes every time.
+fn every_time<C: FnMut() -> bool>(mut call: C) -> bool
+    requires { C.IsAlwaysCallable call }
+{
     for _ in 0..BLOCKS {
-        granted = granted && encode(framed, generators, message, block).is_ok();
+        if !call() {
+            return false;
+        }
     }
-    granted
-}
-
-// Whether the block was found clean every time.
-fn check_again<F: Field>(framed: &Framed, frame: &[F], block: &[F]) -> bool {
-    let mut clean = true;
-    for _ in 0..BLOCKS {
-        clean = clean && check(framed, frame, block).unwrap_or(false);
-    }
-    clean
-}
-
-// Whether every one of so many inversions was granted.
-fn invert_again<F: Field>(framed: &Framed, frame: &[F], block: &[F], message: &mut [F]) -> bool {
-    let mut granted = true;
-    for _ in 0..BLOCKS {
-        granted = granted && invert(framed, frame, block, message).is_ok();
-    }
-    granted
-}
-
-// Prints one answer, and where asked how long it took.
-fn report(rt: &HostRuntime, call: &str, held: bool, start: Instant, timed: bool) -> io::Result<()> {
-    println!(rt; "  {call}: {held}")?;
-    if timed {
-        let micros = start.elapsed(rt)?.as_micros();
-        println!(rt; "  {call}: {micros} microseconds")?;
-    }
-    Ok(())
+    true
 }
 
 // Encodes, checks and inverts a message of codes that look random.
-pub fn run_blocks<F: Field>(
-    rt: &HostRuntime,
+fn run_blocks<F: Field>(
+    bench: &Bench<'_>,
     framed: &Framed,
-    generators: &[F],
-    frame: &[F],
+    tables: &Tables<F>,
     message: &mut [F],
     block: &mut [F],
-    timed: bool,
 ) -> io::Result<()> {
-    rows::fill(message);
-    let start = Instant::now(rt)?;
-    let encoded = encode_again(framed, generators, message, block);
-    report(rt, "encode", encoded, start, timed)?;
-    let start = Instant::now(rt)?;
-    let clean = check_again(framed, frame, block);
-    report(rt, "check", clean, start, timed)?;
-    let start = Instant::now(rt)?;
-    let inverted = invert_again(framed, frame, block, message);
-    report(rt, "invert", inverted, start, timed)
+    Random::seeded(1).fill(message);
+    let Tables {
+        generators,
+        frame,
+        ..
+    } = tables;
+    bench.measure("  encode", || {
+        Some(every_time(|| encode(framed, generators, message, block).is_ok()))
+    })?;
+    bench.measure("  check", || {
+        Some(every_time(|| check(framed, frame, block).unwrap_or(false)))
+    })?;
+    bench.measure("  invert", || {
+        Some(every_time(|| invert(framed, frame, block, message).is_ok()))
+    })
+}
+
+// Sends messages under n generators.
+fn run_link<F: Field>(
+    bench: &Bench<'_>,
+    heap: Global,
+    n: usize,
+    tables: &mut Tables<F>,
+    message: &mut [F],
+) -> anyhow::Result<()> {
+    bench.heading(format_args!("blocks of {n} streams"))?;
+    let mut block = zeros(heap, n.saturating_mul(STREAM))?;
+    if let Some(draft) = tables.draft(n) {
+        if let Some(framed) = tables.frame(draft) {
+            run_blocks(bench, &framed, tables, message, &mut block)?;
+        }
+    }
+    Ok(())
+}
+
+// Frames and blocks.
+pub fn run_designs<F: Field>(bench: &Bench<'_>, heap: Global, name: &str) -> anyhow::Result<()> {
+    let mut tables = Tables::<F>::zeros(heap)?;
+    let mut message = zeros(heap, MESSAGE)?;
+    bench.measure(name, || tables.frame_again())?;
+    run_link(bench, heap, 2, &mut tables, &mut message)?;
+    run_link(bench, heap, 8, &mut tables, &mut message)
 }

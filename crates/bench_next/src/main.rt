@@ -1,161 +1,21 @@
 // Multiplies a million times in each field and writes the last code; finds the greatest common divisor of a row a thousand times and writes
-// the degrees; with the word `time`, also how long each took.
+// the degrees; frames designs and sends blocks; with the word `time`, also how long each took.
 #![tactic(auto)]
 
 mod designs;
-mod rows;
 
-use fields::fault::FieldFault;
-use fields::field::Field;
-use nibbles::Nibble;
-use std::alloc::{AllocError, Global};
-use std::time::Instant;
-use std::{env, io};
+use bench_support::bench::Bench;
+use bench_support::products::run_products;
+use bench_support::rows::run_rows;
+use designs::run_designs;
 use tones::Tone;
-use towers::{Byte, TonePair};
-
-const PRODUCTS: u32 = 1_000_000;
-
-// Each product is of the two before it; the first two have these codes.
-fn chain<F: Field>(first: u32, second: u32) -> Result<u16, FieldFault> {
-    let mut older = F::element(first)?;
-    let mut newer = F::element(second)?;
-    for _ in 0..PRODUCTS {
-        let product = older.multiply(newer);
-        older = newer;
-        newer = product;
-    }
-    Ok(newer.code())
-}
-
-fn run<F: Field>(
-    rt: &HostRuntime,
-    name: &str,
-    first: u32,
-    second: u32,
-    timed: bool,
-) -> io::Result<()> {
-    let start = Instant::now(rt)?;
-    match chain::<F>(first, second) {
-        Ok(code) => println!(rt; "{name}: {code}")?,
-        Err(_) => println!(rt; "{name}: no such members")?,
-    }
-    if timed {
-        let micros = start.elapsed(rt)?.as_micros();
-        println!(rt; "{name}: {micros} microseconds")?;
-    }
-    Ok(())
-}
-
-fn run_rows<F: Field>(
-    rt: &HostRuntime,
-    name: &str,
-    generators: &mut [F],
-    work: &mut [F],
-    timed: bool,
-) -> io::Result<()> {
-    rows::fill(generators);
-    let start = Instant::now(rt)?;
-    if let Some(degrees) = rows::divide(generators, work) {
-        let divisor = degrees.divisor;
-        let row = degrees.row;
-        println!(rt; "{name}: divisor of degree {divisor}, divided row of degree {row}")?;
-    }
-    if timed {
-        let micros = start.elapsed(rt)?.as_micros();
-        println!(rt; "{name}: {micros} microseconds")?;
-    }
-    Ok(())
-}
-
-// Sends messages under n generators.
-fn run_link<F: Field>(
-    rt: &HostRuntime,
-    n: usize,
-    generators: &mut [F],
-    frame: &mut [F],
-    work: &mut [F],
-    message: &mut [F],
-    block: &mut [F],
-    timed: bool,
-) -> io::Result<()> {
-    println!(rt; "blocks of {n} streams")?;
-    let framed = match designs::draft(n, generators) {
-        Some(draft) => draft.frame(generators, frame, work).ok(),
-        None => None,
-    };
-    match framed {
-        Some(framed) => designs::run_blocks(rt, &framed, generators, frame, message, block, timed),
-        None => Ok(()),
-    }
-}
-
-// A table of so many zeros.
-fn zeros<F: Field>(heap: Global, long: usize) -> Result<Vec<F>, AllocError> {
-    let mut table = Vec::new(heap);
-    for _ in 0..long {
-        table.push(F::zero())?;
-    }
-    Ok(table)
-}
-
-// Frames and blocks.
-fn run_designs<F: Field>(rt: &HostRuntime, name: &str, timed: bool) -> anyhow::Result<()> {
-    let mut generators = zeros::<F>(rt.alloc(), 136)?;
-    let mut frame = zeros::<F>(rt.alloc(), 1105)?;
-    let mut work = zeros::<F>(rt.alloc(), 4521)?;
-    let mut message = zeros::<F>(rt.alloc(), 4096)?;
-    let mut narrow = zeros::<F>(rt.alloc(), 2 * 4112)?;
-    let mut wide = zeros::<F>(rt.alloc(), 8 * 4112)?;
-    designs::run_frames(rt, name, &mut generators, &mut frame, &mut work, timed)?;
-    run_link(
-        rt,
-        2,
-        &mut generators,
-        &mut frame,
-        &mut work,
-        &mut message,
-        &mut narrow,
-        timed,
-    )?;
-    run_link(
-        rt,
-        8,
-        &mut generators,
-        &mut frame,
-        &mut work,
-        &mut message,
-        &mut wide,
-        timed,
-    )?;
-    Ok(())
-}
+use towers::Byte;
 
 fn main(rt: HostRuntime) -> anyhow::Result<()> {
-    let mut timed = false;
-    for word in env::args(&rt)? {
-        if word.as_str() == "time" {
-            timed = true;
-        }
-    }
-    run::<Tone>(&rt, "tones", 3, 11, timed)?;
-    run::<Nibble>(&rt, "nibbles", 2, 9, timed)?;
-    run::<Byte>(&rt, "bytes", 16, 77, timed)?;
-    run::<TonePair>(&rt, "tone pairs", 40, 500, timed)?;
-    run_rows(
-        &rt,
-        "rows of tones",
-        &mut [Tone::zero(); 136],
-        &mut [Tone::zero(); 4521],
-        timed,
-    )?;
-    run_rows(
-        &rt,
-        "rows of bytes",
-        &mut [Byte::zero(); 136],
-        &mut [Byte::zero(); 4521],
-        timed,
-    )?;
-    run_designs::<Tone>(&rt, "frames over tones", timed)?;
-    run_designs::<Byte>(&rt, "frames over bytes", timed)
+    let bench = Bench::start(&rt)?;
+    run_products(&bench)?;
+    run_rows(&bench)?;
+    let heap = rt.alloc();
+    run_designs::<Tone>(&bench, heap, "frames over tones")?;
+    run_designs::<Byte>(&bench, heap, "frames over bytes")
 }

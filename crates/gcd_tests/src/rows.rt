@@ -1,112 +1,109 @@
 // Rows of generators for the tests, and what is checked of each.
-use crate::plain::{Polynomial, divides, element, equal, multiply, top};
+use crate::plain::{Polynomial, divides, element, multiply, top};
 use fields::field::Field;
 use frames::row::{DIVISOR, Degrees, ROW, divide_by_gcd};
+use random::Random;
 use std::process::Abort;
+use tables::sizes::{GENERATORS, WIDTH, WORK};
 
 // A polynomial of at most that degree, with codes that look random.
-pub fn polynomial(degree: usize, seed: u32, size: u32) -> Polynomial {
-    let mut f = [0; 17];
-    let mut now = seed;
-    for k in 0..17 {
-        now = now.wrapping_mul(1_664_525).wrapping_add(1_013_904_223);
-        if k <= degree && size != 0 {
-            f[k] = (now >> 16) % size;
-        }
+pub fn polynomial<F: Field>(degree: usize, seed: u32) -> Polynomial {
+    let mut f = [0; WIDTH];
+    let mut random = Random::seeded(seed);
+    for code in f.iter_mut().take(degree.saturating_add(1)) {
+        *code = random.below(F::size());
     }
     f
 }
 
-// The codes of the 17 places from base on.
-pub fn part<F: Field>(table: &[F], base: usize) -> Polynomial {
-    let mut f = [0; 17];
-    for k in 0..17 {
-        if base < table.len() && k < table.len() - base {
-            f[k] = u32::from(table[base + k].code());
-        }
+// The codes of coefficients, and zeros behind them.
+fn codes<F: Field>(coefficients: &[F]) -> Polynomial {
+    let mut f = [0; WIDTH];
+    for (code, x) in f.iter_mut().zip(coefficients.iter()) {
+        *code = u32::from(x.code());
     }
     f
 }
 
-// Writes a polynomial at generator i.
-pub fn put<F: Field>(generators: &mut [F], i: usize, f: Polynomial) {
-    for k in 0..17 {
-        if i < 8 && 17 * i + k < generators.len() {
-            generators[17 * i + k] = element(f[k]);
+// Writes a polynomial over coefficients.
+pub fn write<F: Field>(coefficients: &mut [F], f: Polynomial) {
+    for (x, code) in coefficients.iter_mut().zip(f.iter()) {
+        *x = element(*code);
+    }
+}
+
+// A row of n generators, with the work table that it is divided in.
+#[derive(Drop)]
+pub struct Row<'a, F: Field> {
+    pub n: usize,
+    pub generators: &'a mut [F],
+    pub work: &'a mut [F],
+}
+
+impl<F: Field> Row<'_, F> {
+    // The call, for tables of the right lengths.
+    pub fn divide(&mut self) -> Option<Degrees> {
+        if self.n <= 8 && self.generators.len() == GENERATORS && self.work.len() == WORK {
+            let n = self.n;
+            divide_by_gcd(n, self.generators, self.work)
+        } else {
+            None
         }
     }
-}
 
-// The call, for tables of the right lengths.
-pub fn divide<F: Field>(n: usize, generators: &[F], work: &mut [F]) -> Option<Degrees> {
-    if n <= 8 && generators.len() == 136 && work.len() == 4521 {
-        divide_by_gcd(n, generators, work)
-    } else {
-        None
+    // What stands at the divisor's place.
+    pub fn divisor(&self) -> Polynomial {
+        codes(self.work.get(DIVISOR..ROW).unwrap_or(&[]))
     }
-}
 
-// Whether every place outside the divisor and the first n quotients is zero.
-pub fn rest_is_zero<F: Field>(n: usize, work: &[F]) -> bool {
-    let mut all = true;
-    for (k, x) in work.iter().enumerate() {
-        if (k < DIVISOR || n <= 8 && ROW + 17 * n <= k) && x.code() != 0 {
-            all = false;
+    // What stands from the first quotient on.
+    fn quotients(&self) -> &[F] {
+        self.work.get(ROW..).unwrap_or(&[])
+    }
+
+    // Whether every place outside the divisor and so many quotients is zero.
+    pub fn rest_is_zero(&self, count: usize) -> bool {
+        let used = count.saturating_mul(WIDTH);
+        self.work.iter().take(DIVISOR).all(|x| x.code() == 0)
+            && self.quotients().iter().skip(used).all(|x| x.code() == 0)
+    }
+
+    // Whether s^e + low divides each generator.
+    fn is_divided(&self, e: usize, low: Polynomial) -> bool {
+        self.generators
+            .chunks(WIDTH)
+            .take(self.n)
+            .all(|generator| divides::<F>(e, low, codes(generator)))
+    }
+
+    // The divisor is monic of its degree, its products with the quotients are the generators, the row has its degree, the rest is zero.
+    pub fn check_division(&self, rt: &impl Abort, degrees: Degrees) {
+        let divisor = self.divisor();
+        assert_eq!(rt; top(divisor), Some(degrees.divisor));
+        assert_eq!(rt; divisor.get(degrees.divisor).copied(), Some(1));
+        let mut highest = None;
+        for (generator, quotient) in self
+            .generators
+            .chunks(WIDTH)
+            .zip(self.quotients().chunks(WIDTH))
+            .take(self.n)
+        {
+            let quotient = codes(quotient);
+            highest = highest.max(top(quotient));
+            assert_eq!(rt; multiply::<F>(divisor, quotient), codes(generator));
         }
+        assert_eq!(rt; highest, Some(degrees.row));
+        assert!(rt; self.rest_is_zero(self.n));
     }
-    all
-}
 
-// Whether s^e + low divides each of the first n generators.
-fn divides_all<F: Field>(e: usize, low: Polynomial, n: usize, generators: &[F]) -> bool {
-    let mut all = true;
-    for i in 0..8usize {
-        if i < n && !divides::<F>(e, low, part(generators, 17 * i)) {
-            all = false;
-        }
+    // A monic polynomial of degree e with the lower codes low and next divides the divisor exactly if it divides each generator.
+    pub fn check_trial(&self, rt: &impl Abort, e: usize, low: u32, next: u32) {
+        let mut trial = [0; WIDTH];
+        trial[0] = low;
+        trial[1] = next;
+        assert_eq!(rt;
+            divides::<F>(e, trial, self.divisor()),
+            self.is_divided(e, trial)
+        );
     }
-    all
-}
-
-// The divisor is monic of its degree, its products with the quotients are the generators, the row has its degree, the rest is zero.
-pub fn check_division<F: Field>(
-    rt: &impl Abort,
-    n: usize,
-    generators: &[F],
-    work: &[F],
-    degrees: Degrees,
-) {
-    let divisor = part(work, DIVISOR);
-    assert_eq!(rt; top(divisor), degrees.divisor);
-    assert!(rt; degrees.divisor < 17);
-    assert_eq!(rt; divisor[degrees.divisor], 1);
-    let mut highest = 0;
-    for i in 0..8usize {
-        if i < n {
-            let quotient = part(work, ROW + 17 * i);
-            highest = top(quotient).max(highest);
-            assert!(rt; equal(multiply::<F>(divisor, quotient), part(generators, 17 * i)));
-        }
-    }
-    assert_eq!(rt; highest, degrees.row);
-    assert!(rt; rest_is_zero(n, work));
-}
-
-// A monic polynomial of degree e with the lower codes low and next divides the divisor exactly if it divides each generator.
-pub fn check_trial<F: Field>(
-    rt: &impl Abort,
-    n: usize,
-    generators: &[F],
-    work: &[F],
-    e: usize,
-    low: u32,
-    next: u32,
-) {
-    let mut trial = [0; 17];
-    trial[0] = low;
-    trial[1] = next;
-    assert_eq!(rt;
-        divides::<F>(e, trial, part(work, DIVISOR)),
-        divides_all(e, trial, n, generators)
-    );
 }

@@ -3,245 +3,220 @@
 
 #[cfg(test)]
 mod tests {
-    use design::draft::Draft;
-    use design::fault::DesignFault;
     use design::framed::Framed;
     use fields::fault::Refusal;
     use fields::field::Field;
-    use link::calls::{check as check_block, encode, invert};
+    use link::calls::{check, encode, invert};
     use link::fault::LinkFault;
     use nibbles::Nibble;
-    use std::alloc::Global;
+    use random::Random;
     use std::process::Abort;
     use std::test::Fail;
+    use test_support::designs::{Design, Tables, Term};
     use tones::Tone;
     use towers::{Byte, TonePair};
 
+    // The generators (s^2, s + 1).
+    const APART: Design<'static> = Design {
+        n: 2,
+        terms: &[Term(0, 2, 1), Term(1, 0, 1), Term(1, 1, 1)],
+    };
+
+    // The generators (s^2, s + s^2).
+    const SHARED: Design<'static> = Design {
+        n: 2,
+        terms: &[Term(0, 2, 1), Term(1, 1, 1), Term(1, 2, 1)],
+    };
+
     // A framed design with its tables.
     #[derive(Drop)]
-    struct Station<F: Field + Drop> {
+    struct Station<F: Field> {
         framed: Framed,
-        generators: Vec<F>,
-        frame: Vec<F>,
+        tables: Tables<F>,
     }
 
-    // The design (s^2, s + 1), or (s^2, s + s^2) where its generators are to share a factor.
-    fn enter<F: Field>(draft: &Draft, table: &mut [F], shared: usize) -> Result<(), DesignFault> {
-        draft.put(table, 0, 2, 1)?;
-        draft.put(table, 1, shared, 1)?;
-        draft.put(table, 1, shared + 1, 1)
-    }
+    impl<F: Field + Clone> Station<F> {
+        fn open(rt: &impl AllocGlobal, design: Design<'_>) -> Result<Station<F>, Fail> {
+            let mut tables = Tables::full_of(rt.alloc(), F::zero())?;
+            let draft = design.enter(&mut tables.generators)?;
+            match draft.frame(&tables.generators, &mut tables.frame, &mut tables.work) {
+                Ok(framed) => Ok(Station { framed, tables }),
+                Err(_) => Err(Fail::new("refused")),
+            }
+        }
 
-    fn open_station<F: Field + Clone + Drop>(
-        rt: &impl Abort,
-        heap: Global,
-        shared: usize,
-    ) -> Result<Station<F>, Fail> {
-        let mut generators = vec![in heap; F::zero(); 136]?;
-        let mut frame = vec![in heap; F::zero(); 1105]?;
-        let mut work = vec![in heap; F::zero(); 4521]?;
-        let draft = Draft::begin(2, generators.as_mut_slice())?;
-        assert!(rt; shared < 16);
-        enter(&draft, generators.as_mut_slice(), shared)?;
-        let Ok(framed) = draft.frame(
-            generators.as_slice(),
-            frame.as_mut_slice(),
-            work.as_mut_slice(),
-        ) else {
-            return Err(Fail::new("refused"));
-        };
-        Ok(Station {
-            framed,
-            generators,
-            frame,
-        })
-    }
+        fn encode(&self, message: &[F], block: &mut [F]) -> Result<(), LinkFault> {
+            encode(&self.framed, &self.tables.generators, message, block)
+        }
 
-    fn number<T: Drop>(r: Result<T, LinkFault>) -> u8 {
-        match r {
-            Ok(_) => 0,
-            Err(fault) => fault.number(),
+        fn check(&self, block: &[F]) -> Result<bool, LinkFault> {
+            check(&self.framed, &self.tables.frame, block)
+        }
+
+        fn invert(&self, block: &[F], message: &mut [F]) -> Result<(), LinkFault> {
+            invert(&self.framed, &self.tables.frame, block, message)
         }
     }
 
-    // The number of the refusal of encode, for a message and a block of these lengths.
-    fn encoded(
-        heap: Global,
+    // What encode answers for a message and a block of so many symbols, a refusal by its number.
+    fn encodes(
+        rt: &(impl Abort + AllocGlobal),
         station: &Station<Tone>,
-        symbols: usize,
-        block: usize,
-    ) -> Result<u8, Fail> {
-        let message = vec![in heap; Tone::T4; symbols]?;
-        let mut block = vec![in heap; Tone::T0; block]?;
-        Ok(number(encode(
-            &station.framed,
-            station.generators.as_slice(),
-            message.as_slice(),
-            block.as_mut_slice(),
-        )))
+        cases: &[(usize, usize, Result<(), u8>)],
+    ) -> Result<(), Fail> {
+        for (symbols, long, answer) in cases {
+            let message = vec![in rt.alloc(); Tone::T4; *symbols]?;
+            let mut block = vec![in rt.alloc(); Tone::T0; *long]?;
+            let answered = station.encode(&message, &mut block);
+            assert_eq!(rt; answered.map_err(|fault| fault.number()), *answer);
+        }
+        Ok(())
     }
 
-    // The number of the refusal of check, for a block of this length.
-    fn checked(heap: Global, station: &Station<Tone>, block: usize) -> Result<u8, Fail> {
-        let block = vec![in heap; Tone::T0; block]?;
-        Ok(number(check_block(&station.framed, station.frame.as_slice(), block.as_slice())))
+    // What check answers for a block of so many zeros, a refusal by its number.
+    fn checks(
+        rt: &(impl Abort + AllocGlobal),
+        station: &Station<Tone>,
+        cases: &[(usize, Result<bool, u8>)],
+    ) -> Result<(), Fail> {
+        for (long, answer) in cases {
+            let block = vec![in rt.alloc(); Tone::T0; *long]?;
+            let answered = station.check(&block);
+            assert_eq!(rt; answered.map_err(|fault| fault.number()), *answer);
+        }
+        Ok(())
     }
 
     #[test]
     fn lengths_and_divisors(rt: HostRuntime) -> Result<(), Fail> {
-        let heap = rt.alloc();
-        let tones = open_station::<Tone>(&rt, heap, 0)?;
-        assert_eq!(rt; encoded(heap, &tones, 1, 6)?, 0);
-        assert_eq!(rt; encoded(heap, &tones, 4096, 8196)?, 0);
-        assert_eq!(rt; encoded(heap, &tones, 0, 4)?, 12);
-        assert_eq!(rt; encoded(heap, &tones, 4097, 8198)?, 12);
-        assert_eq!(rt; encoded(heap, &tones, 1, 7)?, 12);
-        assert_eq!(rt; checked(heap, &tones, 0)?, 12);
-        assert_eq!(rt; checked(heap, &tones, 4)?, 12);
-        assert_eq!(rt; checked(heap, &tones, 7)?, 12);
-        assert_eq!(rt; checked(heap, &tones, 6)?, 0);
-        assert_eq!(rt; checked(heap, &tones, 8196)?, 0);
-        assert_eq!(rt; checked(heap, &tones, 8198)?, 12);
-        let shared = open_station::<Tone>(&rt, heap, 1)?;
-        assert_eq!(rt; encoded(heap, &shared, 1, 4)?, 11);
-        assert_eq!(rt; checked(heap, &shared, 4)?, 11);
-        Ok(())
+        let tones = Station::open(&rt, APART)?;
+        encodes(
+            &rt,
+            &tones,
+            &[
+                (1, 6, Ok(())),
+                (4096, 8196, Ok(())),
+                (0, 4, Err(12)),
+                (4097, 8198, Err(12)),
+                (1, 7, Err(12)),
+            ],
+        )?;
+        checks(
+            &rt,
+            &tones,
+            &[
+                (0, Err(12)),
+                (4, Err(12)),
+                (7, Err(12)),
+                (6, Ok(true)),
+                (8196, Ok(true)),
+                (8198, Err(12)),
+            ],
+        )?;
+        let shared = Station::open(&rt, SHARED)?;
+        encodes(&rt, &shared, &[(1, 4, Err(11))])?;
+        checks(&rt, &shared, &[(4, Err(11))])
     }
 
-    // How many of the symbols of two messages differ.
-    fn differing<F: Field>(left: &[F], right: &[F]) -> usize {
-        let mut count = 0usize;
-        for (x, y) in left.iter().zip(right.iter()) {
-            if x.code() != y.code() {
-                count = count.saturating_add(1);
+    // A message on its way: its block, and what came home.
+    #[derive(Drop)]
+    struct Transit<F: Field> {
+        station: Station<F>,
+        message: Vec<F>,
+        block: Vec<F>,
+        back: Vec<F>,
+    }
+
+    impl<F: Field + Clone> Transit<F> {
+        // How many of the symbols that came home are not those of the message.
+        fn spoiled(&self) -> usize {
+            self.message
+                .iter()
+                .zip(self.back.iter())
+                .filter(|(x, y)| x.code() != y.code())
+                .count()
+        }
+
+        // The block with the symbol at a place raised by one is unclean, and its message differs in at most two symbols.
+        fn hit(&mut self, rt: &impl Abort, place: usize) -> Result<(), Fail> {
+            let Some(symbol) = self.block.get(place).copied() else {
+                return Err(Fail::new("no such place"));
+            };
+            self.write(place, symbol.add(F::one()));
+            assert_eq!(rt; self.station.check(&self.block), Ok(false));
+            assert_eq!(rt; self.station.invert(&self.block, &mut self.back), Ok(()));
+            assert!(rt; self.spoiled() <= 2);
+            self.write(place, symbol);
+            Ok(())
+        }
+
+        // Puts a symbol in the block.
+        fn write(&mut self, place: usize, symbol: F) {
+            if let Some(x) = self.block.get_mut(place) {
+                *x = symbol;
             }
         }
-        count
-    }
-
-    // The block with the symbol at a place raised by one is unclean, and its message differs in at most two symbols.
-    fn hit<F: Field + Clone + Drop>(
-        rt: &impl Abort,
-        station: &Station<F>,
-        message: &[F],
-        block: &mut [F],
-        back: &mut [F],
-        place: usize,
-    ) -> Result<(), Fail> {
-        let Some(symbol) = block.get(place).copied() else {
-            return Err(Fail::new("no such place"));
-        };
-        assert!(rt; place < block.len());
-        block[place] = symbol.add(F::one());
-        assert!(rt;
-            matches!(
-                check_block(&station.framed, station.frame.as_slice(), block),
-                Ok(false)
-            )
-        );
-        assert_eq!(rt;
-            number(invert(&station.framed, station.frame.as_slice(), block, back)),
-            0
-        );
-        assert!(rt; differing(message, back) <= 2);
-        assert!(rt; place < block.len());
-        block[place] = symbol;
-        Ok(())
-    }
-
-    // Five symbols whose codes look random.
-    fn random_message<F: Field + Clone + Drop>(heap: Global, seed: u32) -> Result<Vec<F>, Fail> {
-        let mut message = vec![in heap; F::zero(); 5]?;
-        let mut state = seed;
-        for symbol in message.as_mut_slice().iter_mut() {
-            state = state.wrapping_mul(1_664_525).wrapping_add(1_013_904_223);
-            if let Ok(x) = F::element((state >> 16) % F::size()) {
-                *symbol = x;
-            }
-        }
-        Ok(message)
     }
 
     // Sends a message of five symbols, and hits each symbol of its block in turn.
-    fn carries<F: Field + Clone + Drop>(
-        rt: &impl Abort,
-        heap: Global,
+    fn carries<F: Field + Clone>(
+        rt: &(impl Abort + AllocGlobal),
         message: Vec<F>,
     ) -> Result<(), Fail> {
-        let station = open_station::<F>(rt, heap, 0)?;
-        let mut block = vec![in heap; F::zero(); 14]?;
-        let mut back = vec![in heap; F::zero(); 5]?;
+        let mut transit = Transit {
+            station: Station::open(rt, APART)?,
+            message,
+            block: vec![in rt.alloc(); F::zero(); 14]?,
+            back: vec![in rt.alloc(); F::zero(); 5]?,
+        };
+        let station = &transit.station;
         assert_eq!(rt;
-            number(encode(
-                &station.framed,
-                station.generators.as_slice(),
-                message.as_slice(),
-                block.as_mut_slice(),
-            )),
-            0
+            station.encode(&transit.message, &mut transit.block),
+            Ok(())
         );
-        assert!(rt;
-            matches!(
-                check_block(&station.framed, station.frame.as_slice(), block.as_slice()),
-                Ok(true)
-            )
-        );
-        assert_eq!(rt;
-            number(invert(
-                &station.framed,
-                station.frame.as_slice(),
-                block.as_slice(),
-                back.as_mut_slice(),
-            )),
-            0
-        );
-        assert_eq!(rt; differing(message.as_slice(), back.as_slice()), 0);
+        assert_eq!(rt; station.check(&transit.block), Ok(true));
+        assert_eq!(rt; station.invert(&transit.block, &mut transit.back), Ok(()));
+        assert_eq!(rt; transit.spoiled(), 0);
         for place in 0..14usize {
-            hit(
-                rt,
-                &station,
-                message.as_slice(),
-                block.as_mut_slice(),
-                back.as_mut_slice(),
-                place,
-            )?;
+            transit.hit(rt, place)?;
         }
         Ok(())
     }
 
     // Sends the message of five codes.
-    fn sends<F: Field + Clone + Drop>(
-        rt: &impl Abort,
-        heap: Global,
-        codes: &[u32],
-    ) -> Result<(), Fail> {
-        let mut message = Vec::new(heap);
+    fn sends<F: Field + Clone>(rt: &(impl Abort + AllocGlobal), codes: &[u32]) -> Result<(), Fail> {
+        let mut message = Vec::new(rt.alloc());
         for code in codes {
-            let Ok(x) = F::element(*code) else {
-                return Err(Fail::new("no such code"));
-            };
-            message.push(x)?;
+            message.push(F::element(*code)?)?;
         }
-        carries(rt, heap, message)
+        carries(rt, message)
+    }
+
+    // Sends five symbols whose codes look random.
+    fn sends_random<F: Field + Clone>(
+        rt: &(impl Abort + AllocGlobal),
+        seed: u32,
+    ) -> Result<(), Fail> {
+        let mut message = vec![in rt.alloc(); F::zero(); 5]?;
+        Random::seeded(seed).fill(&mut message);
+        carries(rt, message)
     }
 
     #[test]
     fn messages_come_home(rt: HostRuntime) -> Result<(), Fail> {
-        let heap = rt.alloc();
-        sends::<Tone>(&rt, heap, &[3, 1, 30, 0, 17])?;
-        sends::<Nibble>(&rt, heap, &[9, 0, 15, 2, 8])?;
-        sends::<Byte>(&rt, heap, &[255, 16, 1, 0, 77])?;
-        sends::<TonePair>(&rt, heap, &[960, 31, 0, 480, 2])
+        sends::<Tone>(&rt, &[3, 1, 30, 0, 17])?;
+        sends::<Nibble>(&rt, &[9, 0, 15, 2, 8])?;
+        sends::<Byte>(&rt, &[255, 16, 1, 0, 77])?;
+        sends::<TonePair>(&rt, &[960, 31, 0, 480, 2])
     }
 
     #[test]
     fn random_messages_come_home(rt: HostRuntime) -> Result<(), Fail> {
-        let heap = rt.alloc();
         for seed in 0..50u32 {
-            carries::<Tone>(&rt, heap, random_message(heap, seed)?)?;
-            carries::<Nibble>(&rt, heap, random_message(heap, seed)?)?;
-            carries::<Byte>(&rt, heap, random_message(heap, seed)?)?;
-            carries::<TonePair>(&rt, heap, random_message(heap, seed)?)?;
+            sends_random::<Tone>(&rt, seed)?;
+            sends_random::<Nibble>(&rt, seed)?;
+            sends_random::<Byte>(&rt, seed)?;
+            sends_random::<TonePair>(&rt, seed)?;
         }
         Ok(())
     }

@@ -1,54 +1,22 @@
 // Answers as text.
-use crate::polynomial::SymbolsText;
-use design::fault::DesignFault;
-use fields::fault::RefusalText;
+use fields::fault::{Refusal, RefusalText};
 use fields::field::Field;
-use link::fault::LinkFault;
 use runs::request::Answer;
 use std::fmt;
+use texts::polynomial::SymbolsText;
 
-// What came of a call that was granted, or the refusal.
+// What a granted call gave, or the refusal.
 #[derive(Drop)]
-struct DesignText<'a> {
-    granted: &'a str,
-    answer: &'a Result<(), DesignFault>,
+struct OutcomeText<'a, T: fmt::Display, E: Refusal + fmt::Display> {
+    granted: T,
+    answer: &'a Result<(), E>,
 }
 
-impl fmt::Display for DesignText<'_> {
+impl<T: fmt::Display, E: Refusal + fmt::Display> fmt::Display for OutcomeText<'_, T, E> {
     fn fmt<W: fmt::Write>(&self, f: &mut fmt::Formatter<W>) -> fmt::Result {
         match self.answer {
-            Ok(_) => {
-                let granted = self.granted;
-                write!(f, "{granted}")
-            }
-            Err(fault) => {
-                let text = RefusalText { fault };
-                write!(f, "{text}")
-            }
-        }
-    }
-}
-
-// The symbols that a call on the link wrote, or the refusal.
-#[derive(Drop)]
-struct LinkText<'a, F: Field> {
-    symbols: &'a [F],
-    answer: &'a Result<(), LinkFault>,
-}
-
-impl<F: Field> fmt::Display for LinkText<'_, F> {
-    fn fmt<W: fmt::Write>(&self, f: &mut fmt::Formatter<W>) -> fmt::Result {
-        match self.answer {
-            Ok(_) => {
-                let symbols = SymbolsText {
-                    symbols: self.symbols,
-                };
-                write!(f, "{symbols}")
-            }
-            Err(fault) => {
-                let text = RefusalText { fault };
-                write!(f, "{text}")
-            }
+            Ok(_) => self.granted.fmt(f),
+            Err(fault) => RefusalText { fault }.fmt(f),
         }
     }
 }
@@ -62,67 +30,31 @@ pub struct AnswerText<'a, F: Field> {
 impl<F: Field> fmt::Display for AnswerText<'_, F> {
     fn fmt<W: fmt::Write>(&self, f: &mut fmt::Formatter<W>) -> fmt::Result {
         match self.answer {
-            Answer::Put(answer) => {
-                let text = DesignText {
-                    granted: "written",
-                    answer,
-                };
-                write!(f, "{text}")
-            }
-            Answer::Frame { answer, .. } => {
-                let text = DesignText {
-                    granted: "framed",
-                    answer,
-                };
-                write!(f, "{text}")
-            }
-            Answer::Offer { answer, .. } => {
-                let text = DesignText {
-                    granted: "framed",
-                    answer,
-                };
-                write!(f, "{text}")
-            }
-            Answer::Reopen(answer) => {
-                let text = DesignText {
-                    granted: "reopened",
-                    answer,
-                };
-                write!(f, "{text}")
-            }
+            Answer::Put(answer) => outcome("written", answer).fmt(f),
+            Answer::Frame { answer, .. } => outcome("framed", answer).fmt(f),
+            Answer::Offer { answer, .. } => outcome("framed", answer).fmt(f),
+            Answer::Reopen(answer) => outcome("reopened", answer).fmt(f),
             Answer::Encode { answer, block, .. } => {
-                let text = LinkText {
-                    symbols: block,
-                    answer,
-                };
-                write!(f, "{text}")
+                outcome(SymbolsText { symbols: block }, answer).fmt(f)
             }
             Answer::Invert {
                 answer,
                 message,
                 ..
-            } => {
-                let text = LinkText {
-                    symbols: message,
-                    answer,
-                };
-                write!(f, "{text}")
-            }
-            Answer::Check {
-                answer: Ok(clean),
-                ..
-            } => {
-                let verdict = if *clean { "clean" } else { "unclean" };
-                write!(f, "{verdict}")
-            }
-            Answer::Check {
-                answer: Err(fault),
-                ..
-            } => {
-                let text = RefusalText { fault };
-                write!(f, "{text}")
-            }
+            } => outcome(SymbolsText { symbols: message }, answer).fmt(f),
+            Answer::Check { answer, .. } => match answer {
+                Ok(true) => write!(f, "clean"),
+                Ok(false) => write!(f, "unclean"),
+                Err(fault) => RefusalText { fault }.fmt(f),
+            },
             Answer::NotAdmitted(_) => write!(f, "not admitted"),
         }
     }
+}
+
+fn outcome<'a, T: fmt::Display, E: Refusal + fmt::Display>(
+    granted: T,
+    answer: &'a Result<(), E>,
+) -> OutcomeText<'a, T, E> {
+    OutcomeText { granted, answer }
 }

@@ -2,9 +2,8 @@
 #![tactic(auto)]
 
 mod answer;
-mod card;
-mod polynomial;
 mod run;
+mod station;
 mod walk;
 
 use run::command;

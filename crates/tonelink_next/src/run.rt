@@ -5,13 +5,8 @@ use script_runner::input::{run_file, run_input};
 // Performs a script: the one in a file, or on standard input where the name is `-` or absent.
 fn run_script(rt: &HostRuntime, name: Option<String>) -> anyhow::Result<()> {
     match name {
-        None => run_input(rt),
-        Some(name) => {
-            if name.as_str() == "-" {
-                return run_input(rt);
-            }
-            run_file(rt, name.as_str())
-        }
+        Some(name) if name.as_str() != "-" => run_file(rt, name.as_str()),
+        _ => run_input(rt),
     }
 }
 

@@ -1,4 +1,5 @@
 // A card as text: its bytes, with what each part means.
+use crate::separated::separated;
 use std::fmt;
 
 // The card that stands in the first bytes of a buffer.
@@ -13,11 +14,7 @@ struct BytesText<'a>(&'a [u8]);
 
 impl fmt::Display for BytesText<'_> {
     fn fmt<W: fmt::Write>(&self, f: &mut fmt::Formatter<W>) -> fmt::Result {
-        for (i, b) in self.0.iter().enumerate() {
-            let blank = if i == 0 { "" } else { " " };
-            write!(f, "{blank}{b}")?;
-        }
-        Ok(())
+        separated(f, " ", self.0.iter())
     }
 }
 
@@ -32,18 +29,17 @@ impl fmt::Display for RecordText<'_> {
     fn fmt<W: fmt::Write>(&self, f: &mut fmt::Formatter<W>) -> fmt::Result {
         let number = self.number;
         let shown = BytesText(self.bytes);
-        let [power, low, high, next] = self.bytes else {
+        let [power, low, high, next] = *self.bytes else {
             return writeln!(f, "  {shown}: no whole record");
         };
-        let code = 256 * u32::from(*high) + u32::from(*low);
+        let code = u16::from_le_bytes([low, high]);
         write!(
             f,
             "  {shown}: record {number}, code {code} at power {power}, "
         )?;
-        if *next == 0 {
-            writeln!(f, "the last of its generator")
-        } else {
-            writeln!(f, "followed by record {next}")
+        match next {
+            0 => writeln!(f, "the last of its generator"),
+            _ => writeln!(f, "followed by record {next}"),
         }
     }
 }
@@ -56,16 +52,12 @@ impl fmt::Display for CardText<'_> {
         writeln!(f, "  {kind}: the field's kind")?;
         writeln!(f, "  {n}: the number of generators")?;
         writeln!(f, "  {m}: the number of records")?;
-        let heads = usize::from(*n).min(rest.len());
-        let (heads, records) = rest.split_at(heads);
+        let (heads, records) = rest.split_at(usize::from(*n).min(rest.len()));
         let shown = BytesText(heads);
         writeln!(f, "  {shown}: the first record of each generator")?;
         for (i, bytes) in records.chunks(4).take(usize::from(*m)).enumerate() {
-            let record = RecordText {
-                number: i + 1,
-                bytes,
-            };
-            write!(f, "{record}")?;
+            let number = i + 1;
+            write!(f, "{}", RecordText { number, bytes })?;
         }
         Ok(())
     }

@@ -1,6 +1,8 @@
 // Polynomials as text, their coefficients by code.
+use crate::separated::separated;
 use fields::field::Field;
 use std::fmt;
+use tables::sizes::WIDTH;
 
 // One coefficient and its power of s.
 #[derive(Drop)]
@@ -11,8 +13,7 @@ struct TermText {
 
 impl fmt::Display for TermText {
     fn fmt<W: fmt::Write>(&self, f: &mut fmt::Formatter<W>) -> fmt::Result {
-        let code = self.code;
-        let power = self.power;
+        let TermText { code, power } = *self;
         match (code, power) {
             (_, 0) => write!(f, "{code}"),
             (1, 1) => write!(f, "s"),
@@ -31,20 +32,19 @@ pub struct PolynomialText<'a, F: Field> {
 
 impl<F: Field> fmt::Display for PolynomialText<'_, F> {
     fn fmt<W: fmt::Write>(&self, f: &mut fmt::Formatter<W>) -> fmt::Result {
-        let mut empty = true;
-        for (power, x) in self.coefficients.iter().enumerate() {
-            let code = x.code();
-            if code != 0 {
-                let term = TermText { code, power };
-                let plus = if empty { "" } else { " + " };
-                write!(f, "{plus}{term}")?;
-                empty = false;
-            }
+        if self.coefficients.iter().all(|x| x.code() == 0) {
+            return write!(f, "0");
         }
-        if empty {
-            write!(f, "0")?;
-        }
-        Ok(())
+        let terms = self
+            .coefficients
+            .iter()
+            .enumerate()
+            .map(|(power, x)| TermText {
+                code: x.code(),
+                power,
+            })
+            .filter(|term| term.code != 0);
+        separated(f, " + ", terms)
     }
 }
 
@@ -57,12 +57,12 @@ pub struct RowText<'a, F: Field> {
 
 impl<F: Field> fmt::Display for RowText<'_, F> {
     fn fmt<W: fmt::Write>(&self, f: &mut fmt::Formatter<W>) -> fmt::Result {
-        for (i, coefficients) in self.table.chunks(17).take(self.n).enumerate() {
-            let polynomial = PolynomialText { coefficients };
-            let comma = if i == 0 { "" } else { ", " };
-            write!(f, "{comma}{polynomial}")?;
-        }
-        Ok(())
+        let polynomials = self
+            .table
+            .chunks(WIDTH)
+            .take(self.n)
+            .map(|coefficients| PolynomialText { coefficients });
+        separated(f, ", ", polynomials)
     }
 }
 
@@ -74,11 +74,6 @@ pub struct SymbolsText<'a, F: Field> {
 
 impl<F: Field> fmt::Display for SymbolsText<'_, F> {
     fn fmt<W: fmt::Write>(&self, f: &mut fmt::Formatter<W>) -> fmt::Result {
-        for (i, x) in self.symbols.iter().enumerate() {
-            let blank = if i == 0 { "" } else { " " };
-            let code = x.code();
-            write!(f, "{blank}{code}")?;
-        }
-        Ok(())
+        separated(f, " ", self.symbols.iter().map(|x| x.code()))
     }
 }

@@ -1,0 +1,42 @@
+// Numbers that look random, the same on every run, for tests and measurements.
+#![tactic(auto)]
+
+ghost use Rattle.std.specs.Prelude.{◌<◌};
+
+use fields::field::Field;
+
+// A linear congruential sequence.
+#[derive(Clone, Copy)]
+pub struct Random {
+    state: u32,
+}
+
+impl Random {
+    pub fn seeded(seed: u32) -> Random {
+        Random { state: seed }
+    }
+
+    // The next number below a size.
+    pub fn below(&mut self, size: u32) -> u32
+        requires { 0 < size }
+        ensures { result < size }
+    {
+        self.state = self
+            .state
+            .wrapping_mul(1_664_525)
+            .wrapping_add(1_013_904_223);
+        (self.state >> 16) % size
+    }
+
+    // The next element.
+    pub fn element<F: Field>(&mut self) -> F {
+        F::element(self.below(F::size())).unwrap_or(F::zero())
+    }
+
+    // Fills a table with the next elements.
+    pub fn fill<F: Field>(&mut self, table: &mut [F]) {
+        for x in table {
+            *x = self.element();
+        }
+    }
+}

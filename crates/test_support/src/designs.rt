@@ -1,0 +1,57 @@
+// Designs by the terms of their generators, with the tables that they lend.
+use design::draft::Draft;
+use design::fault::DesignFault;
+use fields::field::Field;
+use std::alloc::{AllocError, Global};
+use tables::sizes::{COLUMNS, FRAME, GENERATORS, WORK};
+
+// One nonzero coefficient of a generator: its number, power and code.
+#[derive(Clone, Copy)]
+pub struct Term(pub usize, pub usize, pub u32);
+
+// A design by the terms of its n generators.
+#[derive(Clone, Copy)]
+pub struct Design<'a> {
+    pub n: usize,
+    pub terms: &'a [Term],
+}
+
+impl Design<'_> {
+    // Begins a draft and enters the terms.
+    pub fn enter<F: Field>(&self, generators: &mut [F]) -> Result<Draft, DesignFault> {
+        let draft = Draft::begin(self.n, generators)?;
+        for Term(i, power, code) in self.terms {
+            draft.put(generators, *i, *power, *code)?;
+        }
+        Ok(draft)
+    }
+}
+
+// The tables that a design lends.
+#[derive(Drop)]
+pub struct Tables<F: Field> {
+    pub generators: Vec<F>,
+    pub frame: Vec<F>,
+    pub work: Vec<F>,
+}
+
+impl<F: Field + Clone> Tables<F> {
+    // No generators yet, and one element everywhere else.
+    pub fn full_of(heap: Global, x: F) -> Result<Tables<F>, AllocError> {
+        Ok(Tables {
+            generators: vec![in heap; F::zero(); GENERATORS]?,
+            frame: vec![in heap; x; FRAME]?,
+            work: vec![in heap; x; WORK]?,
+        })
+    }
+
+    // The columns of the frame.
+    pub fn columns(&self) -> &[F] {
+        self.frame.get(..COLUMNS).unwrap_or(&[])
+    }
+
+    // The divisor behind them.
+    pub fn divisor(&self) -> &[F] {
+        self.frame.get(COLUMNS..).unwrap_or(&[])
+    }
+}
