@@ -1,7 +1,7 @@
 use Rattle.std.proofs.Common.{sym, ◌∙◌, ap₂, arith}
 use Rattle.tables.specs.Places.{at}
 use Rattle.elimination.proofs.Columns.{at_is, step_written}
-use Rattle.elimination.proofs.steps.apply_step.Goals as goal
+use Rattle.elimination.proofs.step.apply_step.Goals as goal
 
 pub returns : goal.returns
 returns g c =

@@ -1,7 +1,7 @@
 use Rattle.std.proofs.Common.{ap, ◌∙◌, arith}
 use Rattle.tables.specs.Places.{at}
 use Rattle.elimination.proofs.Columns.{added_all}
-use Rattle.elimination.proofs.steps.subtract_multiple.Goals as goal
+use Rattle.elimination.proofs.step.subtract_multiple.Goals as goal
 
 pub returns : goal.returns
 returns g c =

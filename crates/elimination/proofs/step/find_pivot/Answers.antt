@@ -3,7 +3,7 @@ use native.Mathlib.Decide.{dec_lt, ℕ_discrete}
 use Rattle.tables.specs.Places.{at}
 use Rattle.tables.proofs.Places.{at_past}
 use Rattle.elimination.proofs.Columns.{at_is}
-use Rattle.elimination.proofs.steps.find_pivot.Goals as goal
+use Rattle.elimination.proofs.step.find_pivot.Goals as goal
 
 pub loop-r-preserved : goal.loop-r-preserved
 loop-r-preserved g c =

@@ -12,12 +12,8 @@ fn subtract_multiple<F: Field>(factors: &[F], x: F, column: &mut [F])
     ensures { (r : ℕ) → at F.ops F.member column.new r ≡ F.ops.sum (at F.ops F.member column.old r) (F.ops.product (at F.ops F.member factors.now r) (F.ops.negative (F.member x))) }
 {
     let minus = x.negate();
-    for r in 0..column.len() {
-        put(
-            column,
-            r,
-            get(column, r).add(get(factors, r).multiply(minus)),
-        );
+    for (r, factor) in factors.iter().enumerate() {
+        put(column, r, get(column, r).add(factor.multiply(minus)));
     }
 }
 
@@ -35,23 +31,12 @@ pub fn apply_step<F: Field>(factors: &[F], t: usize, p: usize, column: &mut [F])
 }
 
 // The numbers of step t.
-fn factors<F: Field>(rows: usize, steps: &[F], t: usize) -> &[F]
+pub(crate) fn factors_of<F: Field>(rows: usize, steps: &[F], t: usize) -> &[F]
     requires { rows * t + rows ≤ length steps.now }
     ensures value { at F.ops F.member result.now ≡ column_at F.ops F.member rows steps.now t }
     ensures len { length result.now ≡ rows }
 {
     &steps[rows * t..rows * t + rows]
-}
-
-// Brings a column up to date by the steps found so far.
-pub fn reduce<F: Field>(rows: usize, rank: usize, steps: &[F], pivots: &[usize], column: &mut [F])
-    requires room { (rows * rank ≤ length steps.now) × ((rank ≤ length pivots.now) × (length column.old ≡ rows)) }
-    requires valid { AreSteps F.ops rows rank (column_at F.ops F.member rows steps.now) (entry_at pivots.now) }
-    ensures { at F.ops F.member column.new ≡ reduced F.ops (column_at F.ops F.member rows steps.now) (entry_at pivots.now) rank (at F.ops F.member column.old) }
-{
-    for t in 0..rank {
-        apply_step(factors(rows, steps, t), t, pivots[t], column);
-    }
 }
 
 // A row in which a column has an entry that is not zero, and the inverse of the entry.
@@ -71,22 +56,4 @@ pub fn find_pivot<F: Field>(column: &[F], rank: usize) -> Option<Pivot<F>>
         }
     }
     None
-}
-
-// Writes the step of a reduced column and its pivot behind the steps found so far.
-pub fn record_step<F: Field>(
-    rows: usize,
-    rank: usize,
-    steps: &mut [F],
-    column: &[F],
-    pivot: Pivot<F>,
-)
-    requires room { (rows * rank + rows ≤ length steps.old) × ((length column.now ≡ rows) × (pivot.row < rows)) }
-    ensures here { column_at F.ops F.member rows steps.new rank ≡ write pivot.row (F.member pivot.inverse) (at F.ops F.member column.now) }
-    ensures others { (k : ℕ) → k < rows * rank → at F.ops F.member steps.new k ≡ at F.ops F.member steps.old k }
-{
-    for r in 0..rows {
-        put(steps, rows * rank + r, get(column, r));
-    }
-    put(steps, rows * rank + pivot.row, pivot.inverse);
 }

@@ -1,7 +1,7 @@
 use Rattle.std.proofs.Common.{◌≡◌, ◌+◌, ◌-◌, ◌*◌, take, drop, ap, ◌∙◌, arith, length-drop, length-take}
 use Rattle.tables.specs.Places.{at}
 use Rattle.elimination.proofs.Tables.{at_part}
-use Rattle.elimination.proofs.steps.factors.Goals as goal
+use Rattle.elimination.proofs.step.factors_of.Goals as goal
 
 pub returns : goal.returns
 returns g c =
