@@ -41,13 +41,8 @@ impl<'a, F: Field> Steps<'a, F> {
         requires { length column.old ≡ self.now.rows }
         ensures { at F.ops F.member column.new ≡ reduced F.ops (column_at F.ops F.member self.now.rows self.now.factors.now) (entry_at self.now.pivots.now) self.now.rank (at F.ops F.member column.old) }
     {
-        for t in 0..self.rank {
-            apply_step(
-                factors_of(self.rows, self.factors, t),
-                t,
-                self.pivots[t],
-                column,
-            );
+        for (t, pivot) in self.pivots[..self.rank].iter().enumerate() {
+            apply_step(factors_of(self.rows, self.factors, t), t, *pivot, column);
         }
     }
 
@@ -71,8 +66,6 @@ impl<'a, F: Field> Steps<'a, F> {
         ensures takes { Takes F.ops self.old.rows self.old.rank (column_at F.ops F.member self.old.rows self.old.factors.now) (entry_at self.old.pivots.now) (at F.ops F.member column.old) (column_at F.ops F.member self.old.rows self.new.factors.now) (entry_at self.new.pivots.now) (at F.ops F.member column.new) result }
         ensures counted { (self.new.rows ≡ self.old.rows) × (self.new.rank ≡ rank_after self.old.rank result) }
     {
-        // its contract has the inverses of all members
-        F::one().inverse();
         self.reduce(column);
         let Some(pivot) = find_pivot(column, self.rank) else {
             return false;

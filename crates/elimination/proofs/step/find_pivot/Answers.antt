@@ -9,7 +9,7 @@ pub loop-r-preserved : goal.loop-r-preserved
 loop-r-preserved g c =
     let f = g.F.Field in
     let there : at f.ops f.member c.args.column.now c.loop-r.r ≡ f.ops.zero =
-    at_is f.ops f.member c.args.column.now c.loop-r.r c.index-column-r.result (omega arith) c.index-column-r.is ∙ c.in_default.ensures.value in
+    at_is f.ops f.member c.args.column.now c.loop-r.r c.index-column-r.result (omega arith) c.index-column-r.is ∙ c.in_default.ensures in
     λ k low h. elim (ℕ_discrete k c.loop-r.r) [
       | yes e ↦ ap (at f.ops f.member c.args.column.now) e ∙ there
       | no n ↦ c.loop-r.invariant k low (omega arith)
@@ -21,7 +21,7 @@ returns-in-Some g c =
     record {
       low = omega (arith, c.loop-r.auto.r);
       within = omega arith;
-      inverse = ap (λ x. f.ops.product x (f.member c.in-Some.inverse)) (at_is f.ops f.member c.args.column.now c.loop-r.r c.index-column-r.result (omega arith) c.index-column-r.is) ∙ c.in-Some.ensures.value;
+      inverse = ap (λ x. f.ops.product x (f.member c.in-Some.inverse)) (at_is f.ops f.member c.args.column.now c.loop-r.r c.index-column-r.result (omega arith) c.index-column-r.is) ∙ c.in-Some.ensures;
       zeros = c.loop-r.invariant;
     }
 
