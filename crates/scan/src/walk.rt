@@ -70,7 +70,7 @@ impl<'a, F: Field> Walk<'a, F> {
             return;
         }
         let next = self.basics + 1;
-        write_check(row.n, next, q, &self.places[..rank], self.column, frame);
+        write_check(row, next, q, &self.places[..rank], self.column, frame);
         self.basics = next;
         self.found[class] = true;
     }
@@ -100,6 +100,6 @@ impl<'a, F: Field> Walk<'a, F> {
         let rank = self.steps.rank;
         write_unit(self.column);
         self.steps.take_column(self.column);
-        write_at(row.n, 0, &self.places[..rank], self.column, frame);
+        write_at(row, 0, &self.places[..rank], self.column, frame);
     }
 }

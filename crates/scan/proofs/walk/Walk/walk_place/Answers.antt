@@ -62,8 +62,8 @@ overflow_add-next g c =
     c.if-self-class.false c.requires.place c.if-take_column.ensures.takes in
     omega (arith, row.sized)
 
-pub write_check-requires-clause-sized : goal.write_check-requires-clause-sized
-write_check-requires-clause-sized g c =
+pub write_check-requires-clause-column : goal.write_check-requires-clause-column
+write_check-requires-clause-column g c =
     let f = g.F.Field in
     let laws = g.met.F.Field in
     let row = c.args.row.now in
@@ -77,7 +77,7 @@ write_check-requires-clause-sized g c =
     c.args.q s.rank w.basics s.factors.now s.pivots.now w.places w.found c.args.frame.now c.requires.walked
     c.take_column.new.self.factors.now c.take_column.new.self.pivots.now (at f.ops f.member c.write_list.new.column) (at f.ops f.member c.take_column.new.column) list
     c.if-self-class.false c.requires.place c.if-take_column.ensures.takes in
-    (row.sized.0, (row.sized.1.0, omega (arith, row.sized)))
+    omega (arith, row.sized)
 
 pub write_check-requires-clause-rising : goal.write_check-requires-clause-rising
 write_check-requires-clause-rising g c =

@@ -28,7 +28,7 @@ write_at-requires g c =
     let wide : s.rows ≡ suc (row.d + row.d) = c.requires.room.0 in
     let room : s.rank ≤ length w.places = omega (arith, row.sized) in
     record {
-      sized = (row.sized.0, (row.sized.1.0, omega arith));
+      column = omega arith;
       room = (omega (arith, count s.rank w.places room), omega arith);
       rising = rising_front s.rank w.places room row.n
           (Walking.walked_places f.ops field f.member row.n row.d s.rows (generator_in f.ops f.member row.entries.now) row.sized.0 row.sized.1.0 row.sized.1.1 wide degree
