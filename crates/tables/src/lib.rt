@@ -3,17 +3,17 @@
 
 ghost use Rattle.tables.specs.Places.{Cleared};
 
-use crate::cells::put;
 use fields::field::Field;
 
 pub mod cells;
 pub mod rows;
+pub mod sizes;
 
 // Sets every place to zero.
 pub fn clear<F: Field>(table: &mut [F])
     ensures { Cleared F.ops F.member table.new }
 {
-    for k in 0..table.len() {
-        put(table, k, F::zero());
+    for x in table.iter_mut() {
+        *x = F::zero();
     }
 }
