@@ -2,10 +2,12 @@ use Rattle.std.proofs.Common.{ℕ, ◌<◌, ◌≤◌}
 use Rattle.elimination.specs.Steps.{entry_at}
 use Rattle.frames.specs.Rows.{Highest}
 use Rattle.framing.specs.Framing.{column_in}
-use Rattle.judging.proofs.degrees.write_degrees.Given as goal
+use Rattle.judging.proofs.degrees.Graded.of.Given as goal
 
 abbrev pub invariant-loop-j : goal.invariant-loop-j
 invariant-loop-j g l =
     let f = g.F.Field in
-    ((j : ℕ) → j < l.j → Highest f.ops l.n (column_in f.ops f.member l.offered j) (entry_at l.degrees j))
-    × ((j : ℕ) → j < l.j → entry_at l.degrees j ≤ 16)
+    record {
+      degrees : (j : ℕ) → j < l.j → Highest f.ops l.n (column_in f.ops f.member l.offered j) (entry_at l.degree-items j);
+      bound : (j : ℕ) → j < l.j → entry_at l.degree-items j ≤ 16;
+    }
