@@ -1,10 +1,10 @@
 -- Columns in a table, changed row by row.
-use Rattle.std.proofs.Common.{◌≡◌, ℕ, ◌<◌, ◌≤◌, List, [], ◌∷◌, length, get_or, set, sym, refl, ap, ◌∙◌, ap₂, arith, length-set}
+use Rattle.std.proofs.Common.{◌≡◌, ℕ, ◌+◌, ◌<◌, ◌≤◌, List, [], ◌∷◌, length, get_or, set, sym, refl, ap, ◌∙◌, subst, ap₂, le_refl, arith, length-set}
 use mathlib.Core.Path.{fun_ext}
 use native.Mathlib.Decide.{ℕ_discrete, dec_lt}
 use Rattle.algebra.specs.Rings.{RingOps, RingLaws}
 use Rattle.algebra.proofs.Solver.{solve, var, 𝟎, ◌⊞◌, ◌⊠◌}
-use Rattle.tables.specs.Places.{at}
+use Rattle.tables.specs.Places.{at, Kept}
 use Rattle.tables.proofs.Places.{at_read, at_past, at_set_same, at_set_other}
 use Rattle.elimination.specs.Steps.{write, step}
 use Rattle.elimination.proofs.StepMaps.{write_same, write_other}
@@ -25,6 +25,15 @@ module _ {F M : Type 0} (o : RingOps M) (m : F → M) where
   Added start factors y now r =
       ((k : ℕ) → k < r → at o m now k ≡ o.sum (at o m start k) (o.product (at o m factors k) y))
       × ((k : ℕ) → r ≤ k → at o m now k ≡ at o m start k)
+
+  pub added_more : (start factors : List F) (y : M) (now next : List F) (r : ℕ) → Added start factors y now r → at o m next r ≡ o.sum (at o m now r) (o.product (at o m factors r) y) → Kept o m r 1 now next → Added start factors y next (r + 1)
+  added_more start factors y now next r (a, b) here others = (
+    (λ k h. elim (ℕ_discrete k r) [
+      | yes e ↦ subst (λ j. at o m next j ≡ o.sum (at o m start j) (o.product (at o m factors j) y)) (sym e) (here ∙ ap (λ s. o.sum s (o.product (at o m factors r) y)) (b r (le_refl r)))
+      | no n ↦ others k (λ w. n (omega arith)) ∙ a k (omega arith)
+    ]),
+    λ k h. others k (λ w. omega arith) ∙ b k (omega arith),
+  )
 
   module _ (L : RingLaws o) where
     pub added_all : (start factors : List F) (y : M) (now : List F) (r : ℕ) → length factors ≡ length now → length now ≡ length start → length now ≤ r → Added start factors y now r → (k : ℕ) → at o m now k ≡ o.sum (at o m start k) (o.product (at o m factors k) y)

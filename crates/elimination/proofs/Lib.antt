@@ -6,3 +6,4 @@ pub mod Taking
 pub mod Echelons
 pub mod Next
 pub mod Whole
+pub mod Valid
