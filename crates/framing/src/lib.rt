@@ -51,8 +51,6 @@ pub fn frame_row<F: Field>(
     ensures answer { MatchOption result (AllZero F.ops n (generator_in F.ops F.member generators.now) × (frame.new ≡ frame.old)) (λ x. HoldsFrame F.ops F.member n generators.now frame.new x.degree x.divisor x.columns) }
     ensures cleared { Cleared F.ops F.member work.new }
 {
-    // Its contract promises that each member but zero has an inverse.
-    let _ = F::one().inverse();
     let degrees = divide_by_gcd(n, generators, work)?;
     write_frame(n, degrees.row, work, frame);
     clear(work);

@@ -6,6 +6,7 @@ use Rattle.std.specs.Option.{unwrap_or}
 use Rattle.std.proofs.lemmas.Bool.Decides.{eqb_tells}
 use Rattle.std.proofs.lemmas.Grind.{get_or_after_one}
 use Rattle.std.proofs.lemmas.List.{get_or-take}
+use Rattle.std.proofs.lemmas.List.Elements.{All-from_get_or}
 use Rattle.std.proofs.lemmas.List.Sums.{sum_by-cons, sum_by-le}
 use Rattle.algebra.specs.Series.{sum_below}
 use Rattle.judging.specs.Answers.{Tells}
@@ -77,6 +78,6 @@ checks_small ds n one room bound few =
     let xs = take (n - 1) (drop 1 ds) in
     let listed = checks_listed ds n one room in
     let e = listed.count in
-    let all : All (λ (x : ℕ). x ≤ 16) xs = All-from_default (λ (x : ℕ). x ≤ 16) xs 0 (λ k h. let a = listed.each k (omega arith) in let b = bound (suc k) (omega arith) in omega arith) in
+    let all : All (λ (x : ℕ). x ≤ 16) xs = All-from_get_or (λ (x : ℕ). x ≤ 16) xs 0 (λ k h. let a = listed.each k (omega arith) in let b = bound (suc k) (omega arith) in omega arith) in
     let s = sum_by-le (λ (x : ℕ). x) 16 xs all in
     omega arith

@@ -2,5 +2,6 @@
 #![tactic(auto)]
 
 mod degrees;
+mod leading;
 pub mod objection;
 mod offer;

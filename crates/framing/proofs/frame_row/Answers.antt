@@ -11,7 +11,7 @@ use Rattle.framing.proofs.frame_row.Goals as goal
 pub write_frame-requires : goal.write_frame-requires
 write_frame-requires g c =
     let f = g.F.Field in
-    let field = field_of g.met.F.Field.laws g.met.F.Field.numbered c.inverse.ensures.invertible in
+    let field = field_of g.met.F.Field.laws g.met.F.Field.numbered g.met.F.Field.invertible in
     let all = c.in_ok-degrees.ensures in
     let low = degrees_within f.ops field f.member c.args.n c.in_ok-degrees.degrees.divisor c.in_ok-degrees.degrees.row c.args.generators.now c.divide_by_gcd.new.work all in
     record {
@@ -24,7 +24,7 @@ write_frame-requires g c =
 pub of-requires : goal.of-requires
 of-requires g c =
     let f = g.F.Field in
-    let field = field_of g.met.F.Field.laws g.met.F.Field.numbered c.inverse.ensures.invertible in
+    let field = field_of g.met.F.Field.laws g.met.F.Field.numbered g.met.F.Field.invertible in
     let all = c.in_ok-degrees.ensures in
     let n = c.args.n in
     let two : 2 ≤ n = omega arith in
@@ -39,7 +39,7 @@ pub returns : goal.returns
 returns g c =
     let f = g.F.Field in
     let R = f.Member in
-    let field = field_of g.met.F.Field.laws g.met.F.Field.numbered c.inverse.ensures.invertible in
+    let field = field_of g.met.F.Field.laws g.met.F.Field.numbered g.met.F.Field.invertible in
     let all = c.in_ok-degrees.ensures in
     let n = c.args.n in
     let two : 2 ≤ n = omega arith in
