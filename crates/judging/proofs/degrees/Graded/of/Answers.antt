@@ -1,5 +1,5 @@
-use Rattle.std.proofs.Common.{◌≡◌, ℕ, ◌<◌, ◌≤◌, length, drop, sym, ◌∙◌, subst, arith, below_more, get_or-append, [], ◌∷◌}
-use Rattle.std.proofs.lemmas.List.{get_or-set_same, get_or-set_other}
+use Rattle.std.proofs.Common.{◌≡◌, ℕ, ◌<◌, ◌≤◌, length, sym, subst, arith, rules, below_more}
+use Rattle.std.proofs.lemmas.List.{get_or-set_same, get_or-set_other, get_or_append_left}
 use Rattle.elimination.specs.Steps.{entry_at}
 use Rattle.frames.specs.Rows.{Highest}
 use Rattle.framing.specs.Framing.{column_in}
@@ -17,6 +17,7 @@ loop-j-preserved g c =
     let here = sym (get_or-set_same ds j v 0 room) in
     let kept = λ (i : ℕ) (h : i < j). sym (get_or-set_other ds j i v 0 (λ e. omega arith)) in
     record {
+      all = search rules;
       degrees = below_more _ _
           (λ i h. subst (λ (d : ℕ). Highest f.ops n (columns i) d) (kept i h) (c.loop-j.invariant.degrees i h))
           (subst (λ (d : ℕ). Highest f.ops n (columns j) d) here c.row_degree.ensures.value);
@@ -27,9 +28,9 @@ loop-j-preserved g c =
 
 pub invariant_of-result-clause-bound : goal.invariant_of-result-clause-bound
 invariant_of-result-clause-bound g c = λ j h.
-    subst (λ (d : ℕ). d ≤ 16) (sym (get_or-append c.loop-j.degree-items _ 0 j (omega arith))) (c.loop-j.invariant.bound j (omega arith))
+    subst (λ (d : ℕ). d ≤ 16) (sym (get_or_append_left c.loop-j.degree-items _ 0 j (omega arith))) (c.loop-j.invariant.bound j (omega arith))
 
 pub returns-clause-degrees : goal.returns-clause-degrees
 returns-clause-degrees g c = λ j h.
     let f = g.F.Field in
-    subst (λ (d : ℕ). Highest f.ops c.args.offer.now.n (column_in f.ops f.member c.args.offer.now.offered.now j) d) (sym (get_or-append c.loop-j.degree-items _ 0 j (omega arith))) (c.loop-j.invariant.degrees j (omega arith))
+    subst (λ (d : ℕ). Highest f.ops c.args.offer.now.n (column_in f.ops f.member c.args.offer.now.offered.now j) d) (sym (get_or_append_left c.loop-j.degree-items _ 0 j (omega arith))) (c.loop-j.invariant.degrees j (omega arith))

@@ -1,0 +1,56 @@
+// The judge of offered columns: the questions, in their order.
+ghost use Rattle.std.specs.Prelude.{◌≡◌, ◌-◌, length, MatchResult};
+ghost use Rattle.algebra.specs.Divisors.{AllZero};
+ghost use Rattle.frames.specs.Rows.{generator_in};
+ghost use Rattle.framing.specs.Framing.{column_in};
+ghost use Rattle.judging.specs.Offers.{Objects, OptimalFor, Passed};
+ghost use Rattle.judging.specs.Questions.{InDegree, FirstOutside, ObjectsByDegree};
+
+use crate::degrees::Graded;
+use crate::objection::Objection;
+use crate::offer::Offer;
+use fields::field::Field;
+use frames::row::{Degrees, divide_by_gcd};
+
+impl<'a, F: Field> Offer<'a, F> {
+    // Asks about the degrees and the leading vectors of the columns, of which column 0 is not zero.
+    fn judge_degrees(&self, d: usize) -> Result<(), Objection>
+        requires { AllZero F.ops self.now.n (column_in F.ops F.member self.now.offered.now 0) → ⊥ }
+        ensures { MatchResult result (λ _. InDegree F.ops self.now.n (self.now.n - 1) d (column_in F.ops F.member self.now.offered.now) × FirstOutside F.ops self.now.n (self.now.n - 1) (column_in F.ops F.member self.now.offered.now)) (ObjectsByDegree F.ops self.now.n (self.now.n - 1) d (column_in F.ops F.member self.now.offered.now)) }
+    {
+        let graded = Graded::of(self);
+        let mut factors = [F::zero(); 64];
+        let mut pivots = [0; 8];
+        if !graded.in_order(d) {
+            return Err(Objection::Degrees);
+        }
+        if graded
+            .eliminate(self.n - 1, &mut factors, &mut pivots)
+            .is_none()
+        {
+            return Err(Objection::Degrees);
+        }
+        let count = graded.count_no_higher();
+        if !graded.outside(count, &mut factors, &mut pivots) {
+            return Err(Objection::Leading);
+        }
+        Ok(())
+    }
+
+    // Judges the columns, and answers the degrees of the divided generators and of the divisor, which is left in the work table.
+    pub(crate) fn judge(&self, work: &mut [F]) -> Result<Degrees, Objection>
+        requires { length work.old ≡ 4521 }
+        ensures answer { MatchResult result (λ x. Passed F.ops F.member self.now.n self.now.generators.now self.now.offered.now work.new x.row x.divisor) (Objects F.ops self.now.n (self.now.n - 1) (generator_in F.ops F.member self.now.generators.now) (column_in F.ops F.member self.now.offered.now)) }
+        ensures exact { MatchResult result (λ _. OptimalFor F.ops (self.now.n - 1) (generator_in F.ops F.member self.now.generators.now) (column_in F.ops F.member self.now.offered.now)) (λ _. OptimalFor F.ops (self.now.n - 1) (generator_in F.ops F.member self.now.generators.now) (column_in F.ops F.member self.now.offered.now) → ⊥) }
+    {
+        let degrees = divide_by_gcd(self.n, self.generators, work).ok_or(Objection::AllZero)?;
+        if !self.product_is(0, F::one(), work) {
+            return Err(Objection::First);
+        }
+        if let Some(j) = self.lowest_no_syzygy(work) {
+            return Err(Objection::Check(j));
+        }
+        self.judge_degrees(degrees.row)?;
+        Ok(degrees)
+    }
+}
