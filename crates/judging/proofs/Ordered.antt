@@ -1,5 +1,5 @@
 -- The degrees of the check columns, as a list. Main results: sum_listed, in_order and out_of_order, no_higher.
-use Rattle.std.proofs.Common.{◌≡◌, ℕ, zero, suc, ◌+◌, ◌*◌, ◌<◌, ◌≤◌, Bool, List, [], ◌∷◌, length, get_or, sum, Option, Some, None, nat_eq, MatchOption, refl, sym, ap, ap₂, ◌∙◌, subst, suc-le-suc, zero-le, add-one, inl, inr, arith, ◌-◌, ◌^◌, take, drop, length-take-le, length-drop}
+use Rattle.std.proofs.Common.{◌≡◌, ℕ, zero, suc, ◌+◌, ◌<◌, ◌≤◌, List, [], ◌∷◌, length, get_or, sum, Option, Some, None, nat_eq, MatchOption, refl, sym, ap, ap₂, ◌∙◌, subst, suc-le-suc, zero-le, add-one, inl, inr, arith, ◌-◌, ◌^◌, take, drop, length-take-le, length-drop}
 use Rattle.std.specs.List.{All, AllWithin, HoldsAt}
 use Rattle.std.specs.List.Sorted.{IsNonDecreasing}
 use Rattle.std.specs.Option.{unwrap_or}

@@ -25,7 +25,7 @@ impl<'a, F: Field> Offer<'a, F> {
             return Err(Objection::Degrees);
         }
         if graded
-            .eliminate(self.n - 1, &mut factors, &mut pivots)
+            .eliminate(graded.n - 1, &mut factors, &mut pivots)
             .is_none()
         {
             return Err(Objection::Degrees);

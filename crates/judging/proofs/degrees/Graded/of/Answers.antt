@@ -1,6 +1,5 @@
-use Rattle.std.proofs.Common.{◌≡◌, ℕ, ◌<◌, ◌≤◌, length, sym, subst, arith, rules, below_more}
+use Rattle.std.proofs.Common.{ℕ, ◌<◌, ◌≤◌, length, sym, subst, arith, rules, below_more}
 use Rattle.std.proofs.lemmas.List.{get_or-set_same, get_or-set_other, get_or_append_left}
-use Rattle.elimination.specs.Steps.{entry_at}
 use Rattle.frames.specs.Rows.{Highest}
 use Rattle.framing.specs.Framing.{column_in}
 use Rattle.judging.proofs.degrees.Graded.of.Goals as goal

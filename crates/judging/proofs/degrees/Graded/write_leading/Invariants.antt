@@ -1,5 +1,4 @@
 use Rattle.std.proofs.Common.{◌≡◌, ℕ, ◌<◌}
-use Rattle.elimination.specs.Steps.{entry_at}
 use Rattle.tables.specs.Places.{at}
 use Rattle.judging.specs.Columns.{coefficients_in}
 use Rattle.judging.proofs.degrees.Graded.write_leading.Given as goal
