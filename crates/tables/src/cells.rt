@@ -29,8 +29,5 @@ pub fn inverse_at<F: Field>(table: &[F], place: usize) -> F
     ensures value { F.ops.product (at F.ops F.member table.now place) (F.member result) ≡ F.ops.one }
     ensures invertible { Invertible F.ops }
 {
-    match get(table, place).inverse() {
-        Some(x) => x,
-        None => unreachable(),
-    }
+    get(table, place).inverse().unwrap()
 }

@@ -3,7 +3,6 @@
 
 ghost use Rattle.tables.specs.Places.{Cleared};
 
-use crate::cells::put;
 use fields::field::Field;
 
 pub mod cells;
@@ -14,7 +13,7 @@ pub mod sizes;
 pub fn clear<F: Field>(table: &mut [F])
     ensures { Cleared F.ops F.member table.new }
 {
-    for k in 0..table.len() {
-        put(table, k, F::zero());
+    for x in table.iter_mut() {
+        *x = F::zero();
     }
 }
