@@ -16,7 +16,7 @@ pub fn pack_degrees<F: Field>(n: usize, frame: &[F], j: usize) -> u64
 {
     let mut packed = 0;
     for k in (j..n).rev() {
-        packed = row_degree(n, frame, GENERATORS * k) as u64 + 256 * packed;
+        packed = row_degree(n, &frame[GENERATORS * k..]) as u64 + 256 * packed;
     }
     packed
 }

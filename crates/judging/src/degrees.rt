@@ -32,7 +32,7 @@ impl<'a, F: Field> Graded<'a, F> {
         let Offer { n, offered, .. } = *offer;
         let mut degrees = [0; 8];
         for (j, degree) in degrees[..n].iter_mut().enumerate() {
-            *degree = row_degree(n, offered, GENERATORS * j);
+            *degree = row_degree(n, &offered[GENERATORS * j..]);
         }
         Graded {
             n,

@@ -10,7 +10,8 @@ use crate::degrees::Graded;
 use crate::objection::Objection;
 use crate::offer::Offer;
 use fields::field::Field;
-use frames::row::{Degrees, divide_by_gcd};
+use frames::row::{DIVISOR, Degrees, divide_by_gcd};
+use tables::sizes::WIDTH;
 
 impl<'a, F: Field> Offer<'a, F> {
     // Asks about the degrees and the leading vectors of the columns, of which column 0 is not zero.
@@ -44,10 +45,10 @@ impl<'a, F: Field> Offer<'a, F> {
         ensures exact { MatchResult result (λ _. OptimalFor F.ops (self.now.n - 1) (generator_in F.ops F.member self.now.generators.now) (column_in F.ops F.member self.now.offered.now)) (λ _. OptimalFor F.ops (self.now.n - 1) (generator_in F.ops F.member self.now.generators.now) (column_in F.ops F.member self.now.offered.now) → ⊥) }
     {
         let degrees = divide_by_gcd(self.n, self.generators, work).ok_or(Objection::AllZero)?;
-        if !self.product_is(0, F::one(), work) {
+        if !self.product_is(0, &work[DIVISOR..DIVISOR + WIDTH]) {
             return Err(Objection::First);
         }
-        if let Some(j) = self.lowest_no_syzygy(work) {
+        if let Some(j) = self.lowest_no_syzygy() {
             return Err(Objection::Check(j));
         }
         self.judge_degrees(degrees.row)?;

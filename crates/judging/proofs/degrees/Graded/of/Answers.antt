@@ -1,7 +1,8 @@
-use Rattle.std.proofs.Common.{ℕ, ◌<◌, ◌≤◌, length, sym, subst, arith, rules, below_more}
+use Rattle.std.proofs.Common.{◌*◌, ℕ, ◌<◌, ◌≤◌, length, sym, subst, arith, rules, below_more}
 use Rattle.std.proofs.lemmas.List.{get_or-set_same, get_or-set_other, get_or_append_left}
 use Rattle.frames.specs.Rows.{Highest}
 use Rattle.framing.specs.Framing.{column_in}
+use Rattle.framing.proofs.ColumnDegrees.{row_from}
 use Rattle.judging.proofs.degrees.Graded.of.Goals as goal
 
 pub loop-j-preserved : goal.loop-j-preserved
@@ -19,7 +20,7 @@ loop-j-preserved g c =
       all = search rules;
       degrees = below_more _ _
           (λ i h. subst (λ (d : ℕ). Highest f.ops n (columns i) d) (kept i h) (c.loop-j.invariant.degrees i h))
-          (subst (λ (d : ℕ). Highest f.ops n (columns j) d) here c.row_degree.ensures.value);
+          (subst (λ (d : ℕ). Highest f.ops n (columns j) d) here (rw (row_from f.ops f.member c.args.offer.now.offered.now (136 * j)) at c.row_degree.ensures.value));
       bound = below_more _ _
           (λ i h. subst (λ (d : ℕ). d ≤ 16) (kept i h) (c.loop-j.invariant.bound i h))
           (subst (λ (d : ℕ). d ≤ 16) here c.row_degree.ensures.bound);
