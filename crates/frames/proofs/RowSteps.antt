@@ -3,6 +3,7 @@ use Rattle.std.proofs.Common.{◌≡◌, ℕ, suc, ◌+◌, ◌-◌, ◌*◌, �
 use native.Mathlib.Decide.{dec_lt}
 use native.Mathlib.Nat.{le-max_right}
 use mathlib.Core.Path.{fun_ext}
+use Rattle.std.specs.List.{between}
 use Rattle.std.specs.Option.{unwrap_or}
 use Rattle.algebra.specs.Rings.{RingOps, RingLaws, FieldLaws, IsField}
 use Rattle.algebra.specs.Series.{series, scale, Below, Degree}
@@ -13,7 +14,7 @@ use Rattle.algebra.proofs.Sums as Sums
 use Rattle.tables.specs.Places.{at, Kept, Cleared, poly_at}
 use Rattle.polynomials.specs.Polynomials.{DegreeOf}
 use Rattle.tables.proofs.Parts as P
-use Rattle.tables.proofs.Slices.{at_left, at_right, at_below, cleared_append, cleared_take, cleared_drop}
+use Rattle.tables.proofs.Slices.{at_drop, at_take, at_left, at_right, at_below, cleared_append, cleared_take, cleared_drop}
 use Rattle.frames.specs.Common.{GcdOfPair, GcdOfFirst, MonicLike}
 use Rattle.frames.specs.Rows.{row_in, generator_in, gcd_in, quotient_in, ZeroOutside, Highest, DividedByGcd}
 use Rattle.frames.proofs.Common as C
@@ -241,6 +242,30 @@ module _ {F R : Type 0} (o : RingOps R) (L : RingLaws o) (member : F → R) wher
       found (inl (z, s)) =
           absurd ((monic_degree o laws f g e like).top (ap (λ (t : ℕ → R). t e)
           (zero_of_row o L n a g gcd (λ i l. sym (divided.0 i l) ∙ ap ((series o).product g) (z i l) ∙ Sums.product_zero (series o) (S.series_laws o L) g))))
+
+-- the highest degree of a row goes by the polynomials of the row
+highest_cong : {R : Type 0} (o : RingOps R) (n d : ℕ) (h f : ℕ → ℕ → R) → ((i : ℕ) → i < n → h i ≡ f i) → Highest o n h d → Highest o n f d
+highest_cong o n d h f same (inl (z, e)) = inl (λ i l. sym (same i l) ∙ z i l, e)
+highest_cong {R} o n d h f same (inr v) =
+    inr (record {
+      bounded = λ i l. subst (Below o (suc d)) (same i l) (v.bounded i l);
+      component = v.component;
+      within = v.within;
+      top = λ z. v.top (ap (λ (t : ℕ → R). t d) (same v.component v.within) ∙ z);
+    })
+
+-- a row in a part of a table, `&xs[base..end]`
+pub highest_range : {F R : Type 0} (o : RingOps R) (member : F → R) (xs : List F) (base end n d : ℕ) → base + 17 * n ≤ end → Highest o n (row_in o member (between base end xs) 0) d → Highest o n (row_in o member xs base) d
+highest_range o member xs base end n d room high =
+    highest_cong o n d (row_in o member (between base end xs) 0) (row_in o member xs base)
+    (λ i l.
+    P.poly_at_is o member (between base end xs) (0 + 17 * i) 17 (row_in o member xs base i) (P.poly_at_below o member xs (base + 17 * i) 17)
+    (λ k h.
+    at_take o member (end - base) (drop base xs) (0 + 17 * i + k) (omega arith)
+    ∙ at_drop o member base xs (0 + 17 * i + k)
+    ∙ ap (at o member xs) (let e : base + (0 + 17 * i + k) ≡ base + 17 * i + k = omega arith in e)
+    ∙ sym (P.poly_at_in o member xs (base + 17 * i) 17 k h)))
+    high
 
 pub max_bound : {R : Type 0} (o : RingOps R) (f : ℕ → R) (width d r : ℕ) (found : Option ℕ) → d ≤ 16 → width ≡ 17 → DegreeOf o width f found → r ≡ max d (unwrap_or found 0) → r ≤ 16
 max_bound o f width d r None h w degree is = omega arith

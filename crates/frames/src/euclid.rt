@@ -6,7 +6,6 @@ ghost use Rattle.frames.specs.Common.{GcdOfPair, SameCommon};
 
 use fields::field::Field;
 use polynomials::{degree, reduce};
-use tables::cells::inverse_at;
 use tables::rows::swap;
 
 // One step: the right polynomial, of degree e, goes to the left, and what it leaves of the other, which was below s^bound, to the right.
@@ -18,8 +17,7 @@ fn euclid_step<F: Field>(left: &mut [F], right: &mut [F], bound: usize, e: usize
     ensures upper { Below F.ops (e + 1) (at F.ops F.member left.new) }
     ensures lower { Below F.ops e (at F.ops F.member right.new) }
 {
-    let inverse = inverse_at(right, e);
-    reduce(&mut left[..bound], right, e, inverse);
+    reduce(&mut left[..bound], right, e);
     swap(left, right);
 }
 

@@ -32,12 +32,12 @@ module _ {R : Type 0} (o : RingOps R) (L : RingLaws o) where
 
   -- the top coefficient of what is left is taken away
   pub divided_step : (e top k j : ℕ) (r z : R) (f b q g h : ℕ → R)
-      → Below o (e + 1) b → o.product (b e) z ≡ o.one → k ≡ j + e → top ≡ suc k → r ≡ o.product z (g k)
+      → Below o (suc e) b → o.product (b e) z ≡ o.one → k ≡ j + e → top ≡ suc k → r ≡ o.product z (g k)
       → h ≡ (series o).sum g (shift o j (scale o (o.negative r) b))
       → Divided top f b q g → Divided k f b ((series o).sum q (shift o j (constant o r))) h
   divided_step e top k j r z f b q g h bb unit k_is top_is r_is next inv = (
     Long.step_is o L f b q g h j r inv.0 next,
-    Long.top_cancels o L b g h k e j r z k_is unit r_is (B.below_mono o L (e + 1) (suc e) b (omega arith) bb) (subst (λ n. Below o n g) top_is inv.1) next,
+    Long.top_cancels o L b g h k e j r z k_is unit r_is bb (subst (λ n. Below o n g) top_is inv.1) next,
   )
 
   -- the same for some quotient
@@ -48,7 +48,7 @@ module _ {R : Type 0} (o : RingOps R) (L : RingLaws o) where
   reduced_none k f b below = ((series o).zero, B.polynomial_zero o L, divided_none k f b (series o).zero below refl)
 
   pub reduced_step : (e top k j : ℕ) (r z : R) (f b g h : ℕ → R)
-      → Below o (e + 1) b → o.product (b e) z ≡ o.one → k ≡ j + e → top ≡ suc k → r ≡ o.product z (g k)
+      → Below o (suc e) b → o.product (b e) z ≡ o.one → k ≡ j + e → top ≡ suc k → r ≡ o.product z (g k)
       → h ≡ (series o).sum g (shift o j (scale o (o.negative r) b))
       → Reduced top f b g → Reduced k f b h
   reduced_step e top k j r z f b g h bb unit k_is top_is r_is next inv = (

@@ -35,8 +35,8 @@ pub fn multiply_into<F: Field>(target: &mut [F], left: &[F], right: &[F])
 
 // Takes away the multiple of a divisor of degree e, shifted by a power, that meets the coefficient above its own leading one, and answers its ratio.
 fn cancel<F: Field>(target: &mut [F], power: usize, divisor: &[F], e: usize, inverse: F) -> F
-    requires room { (power + e < length target.old) × (e < length divisor.now) }
-    requires below { Below F.ops (e + 1) (at F.ops F.member divisor.now) }
+    requires room { power + e < length target.old }
+    requires degree { Degree F.ops (at F.ops F.member divisor.now) e }
     ensures ratio { F.member result ≡ F.ops.product (F.member inverse) (at F.ops F.member target.old (power + e)) }
     ensures rest { at F.ops F.member target.new ≡ (series F.ops).sum (at F.ops F.member target.old) (shift F.ops power (scale F.ops (F.ops.negative (F.member result)) (at F.ops F.member divisor.now))) }
 {
@@ -45,27 +45,26 @@ fn cancel<F: Field>(target: &mut [F], power: usize, divisor: &[F], e: usize, inv
     ratio
 }
 
-// Leaves the remainder by a divisor of degree e, given the inverse of its leading coefficient.
-pub fn reduce<F: Field>(dividend: &mut [F], divisor: &[F], e: usize, inverse: F)
-    requires room { e < length divisor.now }
-    requires below { Below F.ops (e + 1) (at F.ops F.member divisor.now) }
-    requires unit { F.ops.product (at F.ops F.member divisor.now e) (F.member inverse) ≡ F.ops.one }
+// Leaves the remainder by a divisor of degree e.
+pub fn reduce<F: Field>(dividend: &mut [F], divisor: &[F], e: usize)
+    requires { Degree F.ops (at F.ops F.member divisor.now) e }
     ensures { LeavesRemainder F.ops e (at F.ops F.member dividend.old) (at F.ops F.member divisor.now) (at F.ops F.member dividend.new) }
 {
+    let inverse = inverse_at(divisor, e);
     for k in (e..dividend.len()).rev() {
         cancel(dividend, k - e, divisor, e, inverse);
     }
 }
 
 // The same, with the quotient written into a cleared slice.
-fn divide<F: Field>(dividend: &mut [F], divisor: &[F], e: usize, inverse: F, quotient: &mut [F])
-    requires room { (e < length divisor.now) × (length dividend.old ≤ length quotient.old) }
-    requires below { Below F.ops (e + 1) (at F.ops F.member divisor.now) }
-    requires unit { F.ops.product (at F.ops F.member divisor.now e) (F.member inverse) ≡ F.ops.one }
+fn divide<F: Field>(dividend: &mut [F], divisor: &[F], e: usize, quotient: &mut [F])
+    requires room { length dividend.old ≤ length quotient.old }
+    requires degree { Degree F.ops (at F.ops F.member divisor.now) e }
     requires cleared { at F.ops F.member quotient.old ≡ (series F.ops).zero }
     ensures division { at F.ops F.member dividend.old ≡ (series F.ops).sum ((series F.ops).product (at F.ops F.member divisor.now) (at F.ops F.member quotient.new)) (at F.ops F.member dividend.new) }
     ensures small { Below F.ops e (at F.ops F.member dividend.new) }
 {
+    let inverse = inverse_at(divisor, e);
     for k in (e..dividend.len()).rev() {
         quotient[k - e] = cancel(dividend, k - e, divisor, e, inverse);
     }
@@ -80,6 +79,5 @@ pub fn divide_exactly<F: Field>(dividend: &mut [F], divisor: &[F], e: usize, quo
     ensures quotient { (series F.ops).product (at F.ops F.member divisor.now) (at F.ops F.member quotient.new) ≡ at F.ops F.member dividend.old }
     ensures cleared { at F.ops F.member dividend.new ≡ (series F.ops).zero }
 {
-    let inverse = inverse_at(divisor, e);
-    divide(dividend, divisor, e, inverse, quotient);
+    divide(dividend, divisor, e, quotient);
 }

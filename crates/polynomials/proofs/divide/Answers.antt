@@ -3,8 +3,11 @@ use Rattle.algebra.proofs.Bounds.{below_mono}
 use Rattle.tables.specs.Places.{at}
 use Rattle.tables.proofs.Places.{at_set_other}
 use Rattle.tables.proofs.Slices.{at_below}
-use Rattle.polynomials.proofs.Divisions.{Divided, divided_none, divided_step, at_set_zero}
+use Rattle.polynomials.proofs.Divisions.{degree_within, Divided, divided_none, divided_step, at_set_zero}
 use Rattle.polynomials.proofs.divide.Goals as goal
+
+pub inverse_at-inverse-requires : goal.inverse_at-inverse-requires
+inverse_at-inverse-requires g c = let f = g.F.Field in record { room = degree_within f.ops g.met.F.Field.laws.ring f.member c.args.divisor.now c.args.e c.requires.degree; nonzero = c.requires.degree.top }
 
 pub loop-k-init : goal.loop-k-init
 loop-k-init g c =
@@ -26,10 +29,10 @@ loop-k-preserved g c =
     let written = at_set_zero f.ops L f.member q j c.cancel.result (omega arith) (c.loop-k.invariant.unwritten j (omega arith)) in
     record {
       divided = subst (λ (t : ℕ → f.Member). Divided f.ops L k (at f.ops f.member c.args.dividend.now) (at f.ops f.member c.args.divisor.now) t (at f.ops f.member c.cancel.new.target)) (sym written)
-          (divided_step f.ops L c.args.e c.loop-k.k k j (f.member c.cancel.result) (f.member c.args.inverse)
+          (divided_step f.ops L c.args.e c.loop-k.k k j (f.member c.cancel.result) (f.member c.inverse_at-inverse.result)
           (at f.ops f.member c.args.dividend.now) (at f.ops f.member c.args.divisor.now) (at f.ops f.member q) (at f.ops f.member c.loop-k.dividend) (at f.ops f.member c.cancel.new.target)
-          c.requires.below c.requires.unit (omega arith) (omega arith)
-          (c.cancel.ensures.ratio ∙ ap (λ i. f.ops.product (f.member c.args.inverse) (at f.ops f.member c.loop-k.dividend i)) place)
+          c.requires.degree.below c.inverse_at-inverse.ensures (omega arith) (omega arith)
+          (c.cancel.ensures.ratio ∙ ap (λ i. f.ops.product (f.member c.inverse_at-inverse.result) (at f.ops f.member c.loop-k.dividend i)) place)
           c.cancel.ensures.rest c.loop-k.invariant.divided);
       unwritten = λ i h. at_set_other f.ops f.member q j i c.cancel.result (λ e. omega (arith, e, h)) ∙ c.loop-k.invariant.unwritten i (omega (arith, h));
     }

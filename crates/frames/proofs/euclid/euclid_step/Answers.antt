@@ -3,15 +3,8 @@ use Rattle.algebra.proofs.Fields.{field_of}
 use Rattle.tables.specs.Places.{at}
 use Rattle.tables.proofs.Slices.{at_cut, put_front}
 use Rattle.polynomials.specs.Polynomials.{LeavesRemainder}
-use Rattle.polynomials.proofs.Divisions.{degree_within}
 use Rattle.frames.proofs.Steps.{euclid_turn}
 use Rattle.frames.proofs.euclid.euclid_step.Goals as goal
-
-pub inverse_at-inverse-requires-clause-room : goal.inverse_at-inverse-requires-clause-room
-inverse_at-inverse-requires-clause-room g c = let f = g.F.Field in degree_within f.ops g.met.F.Field.laws.ring f.member c.args.right.now c.args.e c.requires.degree
-
-pub reduce-requires-clause-room : goal.reduce-requires-clause-room
-reduce-requires-clause-room g c = let f = g.F.Field in degree_within f.ops g.met.F.Field.laws.ring f.member c.args.right.now c.args.e c.requires.degree
 
 pub returns : goal.returns
 returns g c =
@@ -20,7 +13,7 @@ returns g c =
     let right = c.args.right.now in
     let rest = c.reduce.new.dividend in
     let size : length rest ≡ c.args.bound = c.reduce.auto.dividend ∙ length-take-le c.args.bound left (omega arith) in
-    let all = euclid_turn f.ops (field_of g.met.F.Field.laws g.met.F.Field.numbered c.inverse_at-inverse.ensures.invertible) c.args.e
+    let all = euclid_turn f.ops (field_of g.met.F.Field.laws g.met.F.Field.numbered g.met.F.Field.invertible) c.args.e
     (at f.ops f.member left) (at f.ops f.member right) (at f.ops f.member rest) (at f.ops f.member c.swap.new.left) (at f.ops f.member c.swap.new.right)
     c.requires.degree
     (subst (λ (p : ℕ → f.Member). LeavesRemainder f.ops c.args.e p (at f.ops f.member right) (at f.ops f.member rest)) (at_cut f.ops f.member left c.args.bound c.requires.below) c.reduce.ensures)

@@ -14,5 +14,5 @@ pub returns : goal.returns
 returns g c =
     let f = g.F.Field in
     let d = c.in_ok-e.ensures in
-    monic_like f.ops (field_of g.met.F.Field.laws g.met.F.Field.numbered c.inverse_at-inverse.ensures.invertible) c.in_ok-e.e (f.member c.inverse_at-inverse.result)
-    (at f.ops f.member c.args.divisor.now) (at f.ops f.member c.scale.new.row) (omega (arith, d.0)) d.1 c.inverse_at-inverse.ensures.value c.scale.ensures
+    monic_like f.ops (field_of g.met.F.Field.laws g.met.F.Field.numbered g.met.F.Field.invertible) c.in_ok-e.e (f.member c.inverse_at-inverse.result)
+    (at f.ops f.member c.args.divisor.now) (at f.ops f.member c.scale.new.row) (omega (arith, d.0)) d.1 c.inverse_at-inverse.ensures c.scale.ensures

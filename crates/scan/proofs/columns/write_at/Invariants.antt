@@ -4,4 +4,4 @@ use Rattle.scan.specs.Columns.{AtPlaces}
 use Rattle.scan.proofs.columns.write_at.Given as goal
 
 abbrev pub invariant-loop-t : goal.invariant-loop-t
-invariant-loop-t g l = let f = g.F.Field in AtPlaces f.ops f.member l.n l.j l.t (entry_at l.places) (at f.ops f.member l.list) l.initial.frame l.frame
+invariant-loop-t g l = let f = g.F.Field in AtPlaces f.ops f.member l.row.n l.j l.t (entry_at l.places) (at f.ops f.member l.list) l.initial.frame l.frame
