@@ -1,28 +1,14 @@
 -- Degrees packed one after the other. Assumes nothing.
-use Rattle.std.proofs.Common.{drop, take, length, length-drop, sym, ◌≡◌, ℕ, zero, suc, ◌+◌, ◌-◌, ◌*◌, ◌^◌, ◌<◌, ◌≤◌, List, [], ◌∷◌, get_or, refl, ap, ◌∙◌, subst, inl, inr, arith, lit≤}
+use Rattle.std.proofs.Common.{length, ◌≡◌, ℕ, zero, suc, ◌+◌, ◌-◌, ◌*◌, ◌^◌, ◌<◌, ◌≤◌, List, [], ◌∷◌, get_or, refl, ap, ◌∙◌, subst, inl, inr, arith, lit≤}
 use native.Mathlib.Nat.{pow-succ', pow-le-pow_right}
 use Rattle.algebra.specs.Rings.{RingOps}
 use Rattle.algebra.specs.Divisors.{AllZero, VectorDegree}
-use mathlib.Core.Path.{fun_ext}
-use Rattle.tables.specs.Places.{at, poly_at}
-use Rattle.tables.proofs.Parts.{poly_at_in, poly_at_is, poly_at_below}
-use Rattle.tables.proofs.Slices.{at_below, at_cut, at_drop}
-use Rattle.frames.specs.Rows.{Highest, row_in, column_in}
+use Rattle.frames.specs.Rows.{Highest, column_in}
 use Rattle.framing.specs.Framing.{DegreesFrom}
 
 pub highest_degree : {R : Type 0} (o : RingOps R) (n d : ℕ) (h : ℕ → ℕ → R) → Highest o n h d → (AllZero o n h → ⊥) → VectorDegree o n h d
 highest_degree o n d h (inl z) some = absurd (some z.0)
 highest_degree o n d h (inr v) some = v
-
--- the polynomials of `&table[base..]`
-pub row_from : {F R : Type 0} (o : RingOps R) (member : F → R) (table : List F) (base : ℕ) → row_in o member (take (length table - base) (drop base table)) 0 ≡ row_in o member table base
-row_from o member table base = fun_ext (λ i.
-    poly_at_is o member (take (length table - base) (drop base table)) (0 + 17 * i) 17 (poly_at o member table (base + 17 * i) 17) (poly_at_below o member table (base + 17 * i) 17)
-    (λ k h.
-    ap (λ f. f (0 + 17 * i + k)) (at_cut o member (drop base table) (length table - base) (at_below o member (drop base table) (length table - base) (omega (arith, length-drop base table))))
-    ∙ at_drop o member base table (0 + 17 * i + k)
-    ∙ ap (at o member table) (let e : base + (0 + 17 * i + k) ≡ base + 17 * i + k = omega arith in e)
-    ∙ sym (poly_at_in o member table (base + 17 * i) 17 k h)))
 
 module _ {F R : Type 0} (o : RingOps R) (member : F → R) (n : ℕ) (frame : List F) where
   pub degrees_none : (j : ℕ) → j ≡ n → DegreesFrom o member n frame j 0

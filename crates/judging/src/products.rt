@@ -10,6 +10,7 @@ ghost use Rattle.judging.specs.Columns.{AllSyzygies, LowestNoSyzygy};
 use crate::offer::Offer;
 use fields::field::Field;
 use polynomials::{degree, multiply_into};
+use tables::clear;
 use tables::rows::add_multiple;
 use tables::sizes::{GENERATORS, WIDTH};
 
@@ -17,21 +18,20 @@ use tables::sizes::{GENERATORS, WIDTH};
 const PRODUCT: usize = 33;
 
 impl<'a, F: Field> Offer<'a, F> {
-    // The generators times column j.
-    fn product(&self, j: usize) -> [F; PRODUCT]
-        requires { j < 8 }
-        ensures { at F.ops F.member result ≡ dot (series F.ops) self.now.n (generator_in F.ops F.member self.now.generators.now) (column_in F.ops F.member self.now.offered.now j) }
+    // Writes the generators times column j.
+    fn write_product(&self, j: usize, product: &mut [F])
+        requires { (j < 8) × (length product.old ≡ 33) }
+        ensures { at F.ops F.member product.new ≡ dot (series F.ops) self.now.n (generator_in F.ops F.member self.now.generators.now) (column_in F.ops F.member self.now.offered.now j) }
     {
-        let mut product = [F::zero(); PRODUCT];
+        clear(product);
         for i in 0..self.n {
             let (left, right) = (WIDTH * i, GENERATORS * j + WIDTH * i);
             multiply_into(
-                &mut product,
+                product,
                 &self.generators[left..left + WIDTH],
                 &self.offered[right..right + WIDTH],
             );
         }
-        product
     }
 
     // Whether the generators times column j are the polynomial of these coefficients.
@@ -39,9 +39,11 @@ impl<'a, F: Field> Offer<'a, F> {
         requires { (j < 8) × (length polynomial.now ≤ 33) }
         ensures { Tells (dot (series F.ops) self.now.n (generator_in F.ops F.member self.now.generators.now) (column_in F.ops F.member self.now.offered.now j) ≡ at F.ops F.member polynomial.now) result }
     {
-        let mut difference = self.product(j);
-        add_multiple(&mut difference, 0, F::one().negate(), polynomial);
-        degree(&difference).is_none()
+        let mut cells = [F::zero(); PRODUCT];
+        let difference = &mut cells[..PRODUCT];
+        self.write_product(j, difference);
+        add_multiple(difference, 0, F::one().negate(), polynomial);
+        degree(difference).is_none()
     }
 
     // The lowest check column that the generators do not send to zero.

@@ -1,7 +1,8 @@
-use Rattle.std.proofs.Common.{◌*◌, ◌≡◌, suc, ◌-◌, ◌^◌, ◌<◌, sym, refl, subst, arith}
+use Rattle.std.proofs.Common.{length, ◌*◌, ◌≡◌, suc, ◌-◌, ◌^◌, ◌<◌, sym, refl, subst, arith}
 use Rattle.frames.specs.Rows.{column_in}
+use Rattle.frames.proofs.RowSteps.{highest_range}
 use Rattle.framing.specs.Framing.{DegreesFrom}
-use Rattle.framing.proofs.ColumnDegrees.{row_from, highest_degree, degrees_none, degrees_more, packed_below, eight_bytes}
+use Rattle.framing.proofs.ColumnDegrees.{highest_degree, degrees_none, degrees_more, packed_below, eight_bytes}
 use Rattle.framing.proofs.packing.pack_degrees.Goals as goal
 
 pub overflow_mul-packed : goal.overflow_mul-packed
@@ -35,7 +36,7 @@ loop-k-preserved g c =
     let h : k < n = omega arith in
     let next : c.loop-k.k ≡ suc k = omega arith in
     record {
-      degrees = degrees_more f.ops f.member n frame k d p h (highest_degree f.ops n d (column_in f.ops f.member frame k) (rw (row_from f.ops f.member frame (136 * k)) at c.row_degree.ensures.value) (c.requires.nonzero k h)) (subst (λ i. DegreesFrom f.ops f.member n frame i p) next c.loop-k.invariant.degrees);
+      degrees = degrees_more f.ops f.member n frame k d p h (highest_degree f.ops n d (column_in f.ops f.member frame k) (highest_range f.ops f.member frame (136 * k) (length frame) n d (omega arith) c.row_degree.ensures.value) (c.requires.nonzero k h)) (subst (λ i. DegreesFrom f.ops f.member n frame i p) next c.loop-k.invariant.degrees);
       bound = packed_below n k d p h c.row_degree.ensures.bound (subst (λ i. p < 256 ^ (n - i)) next c.loop-k.invariant.bound);
       above = omega arith;
     }

@@ -2,14 +2,15 @@ use Rattle.std.proofs.Common.{◌*◌, ℕ, ◌<◌, ◌≤◌, length, sym, sub
 use Rattle.std.proofs.lemmas.List.{get_or-set_same, get_or-set_other, get_or_append_left}
 use Rattle.frames.specs.Rows.{Highest}
 use Rattle.framing.specs.Framing.{column_in}
-use Rattle.framing.proofs.ColumnDegrees.{row_from}
+use Rattle.frames.proofs.RowSteps.{highest_range}
 use Rattle.judging.proofs.degrees.Graded.of.Goals as goal
 
 pub loop-j-preserved : goal.loop-j-preserved
 loop-j-preserved g c =
     let f = g.F.Field in
     let n = c.args.offer.now.n in
-    let columns = column_in f.ops f.member c.args.offer.now.offered.now in
+    let offered = c.args.offer.now.offered.now in
+    let columns = column_in f.ops f.member offered in
     let ds = c.loop-j.degree-items in
     let j = c.loop-j.j in
     let v = c.row_degree.result in
@@ -20,7 +21,7 @@ loop-j-preserved g c =
       all = search rules;
       degrees = below_more _ _
           (λ i h. subst (λ (d : ℕ). Highest f.ops n (columns i) d) (kept i h) (c.loop-j.invariant.degrees i h))
-          (subst (λ (d : ℕ). Highest f.ops n (columns j) d) here (rw (row_from f.ops f.member c.args.offer.now.offered.now (136 * j)) at c.row_degree.ensures.value));
+          (subst (λ (d : ℕ). Highest f.ops n (columns j) d) here (highest_range f.ops f.member offered (136 * j) (length offered) n v (omega arith) c.row_degree.ensures.value));
       bound = below_more _ _
           (λ i h. subst (λ (d : ℕ). d ≤ 16) (kept i h) (c.loop-j.invariant.bound i h))
           (subst (λ (d : ℕ). d ≤ 16) here c.row_degree.ensures.bound);

@@ -1,4 +1,4 @@
-use Rattle.std.proofs.Common.{ℕ, ◌<◌, ◌≤◌, length}
+use Rattle.std.proofs.Common.{◌≡◌, ℕ, ◌<◌, ◌≤◌, length}
 use Rattle.elimination.specs.Steps.{entry_at}
 use Rattle.frames.specs.Rows.{Highest}
 use Rattle.framing.specs.Framing.{column_in}
@@ -8,7 +8,7 @@ abbrev pub invariant-loop-j : goal.invariant-loop-j
 invariant-loop-j g l =
     let f = g.F.Field in
     record {
-      all : l.n ≤ length l.degree-items;
+      all : length l.degree-items ≡ l.n;
       degrees : (j : ℕ) → j < l.j → Highest f.ops l.n (column_in f.ops f.member l.offered j) (entry_at l.degree-items j);
       bound : (j : ℕ) → j < l.j → entry_at l.degree-items j ≤ 16;
     }

@@ -3,7 +3,7 @@ use Rattle.algebra.specs.Series.{dot, series}
 use Rattle.frames.specs.Rows.{generator_in}
 use Rattle.framing.specs.Framing.{column_in}
 use Rattle.tables.specs.Places.{at}
-use Rattle.judging.proofs.offer.Offer.product.Given as goal
+use Rattle.judging.proofs.offer.Offer.write_product.Given as goal
 
 abbrev pub invariant-loop-i : goal.invariant-loop-i
 invariant-loop-i g l =
