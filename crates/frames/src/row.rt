@@ -34,9 +34,8 @@ fn gather<F: Field>(n: usize, generators: &[F], spare: &mut [F], divisor: &mut [
     ensures divisors { GcdOfFirst F.ops n (generator_in F.ops F.member generators.now) (at F.ops F.member divisor.new) }
     ensures rest { at F.ops F.member spare.new ≡ (series F.ops).zero }
 {
-    for i in 0..n {
-        let start = WIDTH * i;
-        spare.copy_from_slice(&generators[start..start + WIDTH]);
+    for generator in generators[..WIDTH * n].chunks_exact(WIDTH) {
+        spare.copy_from_slice(generator);
         euclid(divisor, spare);
     }
 }
@@ -69,9 +68,9 @@ fn divide_row<F: Field>(
     ensures behind { (k : ℕ) → 17 * n ≤ k → at F.ops F.member row.new k ≡ F.ops.zero }
     ensures rest { at F.ops F.member spare.new ≡ (series F.ops).zero }
 {
-    for i in 0..n {
+    for (i, generator) in generators[..WIDTH * n].chunks_exact(WIDTH).enumerate() {
         let start = WIDTH * i;
-        spare.copy_from_slice(&generators[start..start + WIDTH]);
+        spare.copy_from_slice(generator);
         divide_exactly(spare, divisor, e, &mut row[start..start + WIDTH]);
     }
 }
@@ -83,9 +82,8 @@ pub fn row_degree<F: Field>(n: usize, row: &[F]) -> usize
     ensures bound { result ≤ 16 }
 {
     let mut d = 0;
-    for i in 0..n {
-        let start = WIDTH * i;
-        d = d.max(degree(&row[start..start + WIDTH]).unwrap_or(0));
+    for part in row[..WIDTH * n].chunks_exact(WIDTH) {
+        d = d.max(degree(part).unwrap_or(0));
     }
     d
 }
