@@ -7,3 +7,4 @@ pub mod Echelons
 pub mod Next
 pub mod Whole
 pub mod Valid
+pub mod Skipped

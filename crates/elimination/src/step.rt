@@ -50,9 +50,9 @@ pub struct Pivot<F: Field> {
 pub fn find_pivot<F: Field>(column: &[F], rank: usize) -> Option<Pivot<F>>
     ensures { MatchOption result ((k : ℕ) → rank ≤ k → at F.ops F.member column.now k ≡ F.ops.zero) (λ p. IsPivot F.ops (length column.now) rank (at F.ops F.member column.now) p.row (F.member p.inverse)) }
 {
-    for r in rank..column.len() {
-        if let Some(inverse) = column[r].inverse() {
-            return Some(Pivot { row: r, inverse });
+    for (row, x) in column.iter().enumerate().skip(rank) {
+        if let Some(inverse) = x.inverse() {
+            return Some(Pivot { row, inverse });
         }
     }
     None

@@ -14,17 +14,12 @@ use crate::walk::Walk;
 use fields::field::Field;
 use frames::row::{DIVISOR, ROW};
 use tables::rows::{clear_part, copy_from};
+use tables::sizes::{COLUMNS, WIDTH};
 
 mod columns;
 mod lists;
 mod row;
 mod walk;
-
-// How many coefficients a polynomial has.
-const WIDTH: usize = 17;
-
-// How many places the columns of a frame take.
-const COLUMNS: usize = 1088;
 
 // How many rows a list has, at most.
 const ROWS: usize = 33;
@@ -33,18 +28,18 @@ const ROWS: usize = 33;
 const FACTORS: usize = 1089;
 
 // Writes the frame columns of a row into a cleared frame, by way of two tables.
-fn scan<F: Field>(row: &Row<'_, F>, factors: &mut [F], column: &mut [F], frame: &mut [F])
-    requires room { (length factors.old ≡ 1089) × ((length column.old ≡ suc (row.now.d + row.now.d)) × (length frame.old ≡ 1105)) }
-    requires coprime { Combination F.ops row.now.n (generator_in F.ops F.member row.now.entries.now) (series F.ops).one }
+fn scan<F: Field>(row: Row<'_, F>, factors: &mut [F], column: &mut [F], frame: &mut [F])
+    requires room { (length factors.old ≡ 1089) × ((length column.old ≡ suc (row.d + row.d)) × (length frame.old ≡ 1105)) }
+    requires coprime { Combination F.ops row.n (generator_in F.ops F.member row.entries.now) (series F.ops).one }
     requires cleared { (k : ℕ) → k < 1088 → at F.ops F.member frame.old k ≡ F.ops.zero }
-    ensures columns { (p : ℕ → ℕ) × FrameColumns F.ops (row.now.n - 1) row.now.d (generator_in F.ops F.member row.now.entries.now) p (column_in F.ops F.member frame.new) }
-    ensures rest { (j i k : ℕ) → j < 8 → i < 8 → k < 17 → (j < row.now.n → i < row.now.n → ⊥) → at F.ops F.member frame.new (136 * j + 17 * i + k) ≡ F.ops.zero }
+    ensures columns { (p : ℕ → ℕ) × FrameColumns F.ops (row.entry.n - 1) row.entry.d (generator_in F.ops F.member row.entry.entries.now) p (column_in F.ops F.member frame.new) }
+    ensures rest { (j i k : ℕ) → j < 8 → i < 8 → k < 17 → (j < row.entry.n → i < row.entry.n → ⊥) → at F.ops F.member frame.new (136 * j + 17 * i + k) ≡ F.ops.zero }
     ensures behind { (k : ℕ) → 1088 ≤ k → at F.ops F.member frame.new k ≡ at F.ops F.member frame.old k }
 {
     let mut pivots = [0usize; ROWS];
     let mut walk = Walk::new(row, factors, &mut pivots, column);
-    walk.walk(row, frame);
-    walk.write_first(row, frame);
+    walk.walk(frame);
+    walk.write_first(frame);
 }
 
 // Writes the degree-optimal frame of the divided row in a work table, whose greatest common divisor is 1, into a frame table: the coefficient of s^k of
@@ -63,5 +58,5 @@ pub fn write_frame<F: Field>(n: usize, d: usize, work: &mut [F], frame: &mut [F]
     let (tables, entries) = work.split_at_mut(ROW);
     let row = Row { n, d, entries };
     let (factors, rest) = tables.split_at_mut(FACTORS);
-    scan(&row, factors, &mut rest[..2 * d + 1], frame);
+    scan(row, factors, &mut rest[..2 * d + 1], frame);
 }

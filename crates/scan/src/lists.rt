@@ -5,12 +5,12 @@ ghost use Rattle.algebra.specs.Series.{series};
 ghost use Rattle.frames.specs.Rows.{generator_in};
 ghost use Rattle.tables.specs.Places.{at};
 
-use crate::WIDTH;
 use crate::row::Row;
 use fields::field::Field;
 use tables::cells::put;
 use tables::clear;
 use tables::rows::copy_from;
+use tables::sizes::WIDTH;
 
 // Writes the list at the place q: the coefficients of s^(q / n) times polynomial q % n of a row.
 pub fn write_list<F: Field>(row: &Row<'_, F>, q: usize, column: &mut [F])

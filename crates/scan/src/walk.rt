@@ -19,29 +19,33 @@ use fields::field::Field;
 // Each list is written into the column.
 #[derive(Drop)]
 pub struct Walk<'a, F: Field> {
+    pub row: Row<'a, F>,
     pub steps: Steps<'a, F>,
     pub places: [usize; ROWS],
     pub found: [bool; 8],
     pub basics: usize,
     pub column: &'a mut [F],
+    pub ghost wide: { steps.rows ≡ suc (row.d + row.d) },
     pub ghost long: { length column.now ≡ steps.rows },
 }
 
 impl<'a, F: Field> Walk<'a, F> {
     // No place of a row walked yet.
     pub fn new(
-        row: &Row<'_, F>,
+        row: Row<'a, F>,
         factors: &'a mut [F],
         pivots: &'a mut [usize],
         column: &'a mut [F],
     ) -> Walk<'a, F>
-        requires { (length factors.old ≡ 1089) × ((length pivots.old ≡ 33) × (length column.old ≡ suc (row.now.d + row.now.d))) }
-        ensures rows { result.steps.rows ≡ suc (row.now.d + row.now.d) }
+        requires { (length factors.old ≡ 1089) × ((length pivots.old ≡ 33) × (length column.old ≡ suc (row.d + row.d))) }
+        ensures row { result.row ≡ row.entry }
         ensures none { (result.steps.rank ≡ 0) × (result.basics ≡ 0) }
         ensures unmarked { (i : ℕ) → i < 8 → mark_at result.found i ≡ false }
     {
+        let steps = Steps::new(2 * row.d + 1, factors, pivots);
         Walk {
-            steps: Steps::new(2 * row.d + 1, factors, pivots),
+            row,
+            steps,
             places: [0; ROWS],
             found: [false; 8],
             basics: 0,
@@ -51,55 +55,55 @@ impl<'a, F: Field> Walk<'a, F> {
 
     // Walks the place q. A place whose class has a basic place is passed. Else its list is taken: where it is pivotal, its step is recorded; where not, it
     // is the next basic place, and its check column is written.
-    fn walk_place(&mut self, row: &Row<'_, F>, q: usize, frame: &mut [F])
-        requires place { q < row.now.n * suc row.now.d }
-        requires room { (self.old.steps.rows ≡ suc (row.now.d + row.now.d)) × (length frame.old ≡ 1105) }
-        requires walked { Walked F.ops F.member row.now.n row.now.d self.old.steps.rows (generator_in F.ops F.member row.now.entries.now) q self.old.steps.rank self.old.basics self.old.steps.factors.now self.old.steps.pivots.now self.old.places self.old.found frame.old }
-        ensures walked { Walked F.ops F.member row.now.n row.now.d self.new.steps.rows (generator_in F.ops F.member row.now.entries.now) (suc q) self.new.steps.rank self.new.basics self.new.steps.factors.now self.new.steps.pivots.now self.new.places self.new.found frame.new }
-        ensures rows { self.new.steps.rows ≡ self.old.steps.rows }
+    fn walk_place(&mut self, q: usize, frame: &mut [F])
+        requires place { q < self.old.row.n * suc self.old.row.d }
+        requires room { length frame.old ≡ 1105 }
+        requires walked { Walked F.ops F.member self.old.row.n self.old.row.d self.old.steps.rows (generator_in F.ops F.member self.old.row.entries.now) q self.old.steps.rank self.old.basics self.old.steps.factors.now self.old.steps.pivots.now self.old.places self.old.found frame.old }
+        ensures walked { Walked F.ops F.member self.old.row.n self.old.row.d self.new.steps.rows (generator_in F.ops F.member self.old.row.entries.now) (suc q) self.new.steps.rank self.new.basics self.new.steps.factors.now self.new.steps.pivots.now self.new.places self.new.found frame.new }
+        ensures row { self.new.row ≡ self.old.row }
         ensures behind { (k : ℕ) → 1088 ≤ k → at F.ops F.member frame.new k ≡ at F.ops F.member frame.old k }
     {
-        let class = q % row.n;
+        let class = q % self.row.n;
         if self.found[class] {
             return;
         }
-        write_list(row, q, self.column);
+        write_list(&self.row, q, self.column);
         let rank = self.steps.rank;
         if self.steps.take_column(self.column) {
             self.places[rank] = q;
             return;
         }
         let next = self.basics + 1;
-        write_check(row, next, q, &self.places[..rank], self.column, frame);
+        write_check(&self.row, next, q, &self.places[..rank], self.column, frame);
         self.basics = next;
         self.found[class] = true;
     }
 
     // Walks all places of a row, in order, into a cleared frame.
-    pub fn walk(&mut self, row: &Row<'_, F>, frame: &mut [F])
-        requires room { (self.old.steps.rows ≡ suc (row.now.d + row.now.d)) × (length frame.old ≡ 1105) }
-        requires walked { Walked F.ops F.member row.now.n row.now.d self.old.steps.rows (generator_in F.ops F.member row.now.entries.now) 0 self.old.steps.rank self.old.basics self.old.steps.factors.now self.old.steps.pivots.now self.old.places self.old.found frame.old }
-        ensures walked { Walked F.ops F.member row.now.n row.now.d self.new.steps.rows (generator_in F.ops F.member row.now.entries.now) (row.now.n * suc row.now.d) self.new.steps.rank self.new.basics self.new.steps.factors.now self.new.steps.pivots.now self.new.places self.new.found frame.new }
-        ensures rows { self.new.steps.rows ≡ self.old.steps.rows }
+    pub fn walk(&mut self, frame: &mut [F])
+        requires room { length frame.old ≡ 1105 }
+        requires walked { Walked F.ops F.member self.old.row.n self.old.row.d self.old.steps.rows (generator_in F.ops F.member self.old.row.entries.now) 0 self.old.steps.rank self.old.basics self.old.steps.factors.now self.old.steps.pivots.now self.old.places self.old.found frame.old }
+        ensures walked { Walked F.ops F.member self.old.row.n self.old.row.d self.new.steps.rows (generator_in F.ops F.member self.old.row.entries.now) (self.old.row.n * suc self.old.row.d) self.new.steps.rank self.new.basics self.new.steps.factors.now self.new.steps.pivots.now self.new.places self.new.found frame.new }
+        ensures row { self.new.row ≡ self.old.row }
         ensures behind { (k : ℕ) → 1088 ≤ k → at F.ops F.member frame.new k ≡ at F.ops F.member frame.old k }
     {
-        for q in 0..row.n * (row.d + 1) {
-            self.walk_place(row, q, frame);
+        for q in 0..self.row.n * (self.row.d + 1) {
+            self.walk_place(q, frame);
         }
     }
 
     // Writes column 0, when all places of a row are walked: the multipliers whose sum of the pivotal lists is the unit list.
-    pub fn write_first(&mut self, row: &Row<'_, F>, frame: &mut [F])
-        requires room { (self.old.steps.rows ≡ suc (row.now.d + row.now.d)) × (length frame.old ≡ 1105) }
-        requires walked { Walked F.ops F.member row.now.n row.now.d self.old.steps.rows (generator_in F.ops F.member row.now.entries.now) (row.now.n * suc row.now.d) self.old.steps.rank self.old.basics self.old.steps.factors.now self.old.steps.pivots.now self.old.places self.old.found frame.old }
-        requires coprime { Combination F.ops row.now.n (generator_in F.ops F.member row.now.entries.now) (series F.ops).one }
-        ensures columns { (p : ℕ → ℕ) × FrameColumns F.ops (row.now.n - 1) row.now.d (generator_in F.ops F.member row.now.entries.now) p (column_in F.ops F.member frame.new) }
-        ensures rest { (j i k : ℕ) → j < 8 → i < 8 → k < 17 → (j < row.now.n → i < row.now.n → ⊥) → at F.ops F.member frame.new (136 * j + 17 * i + k) ≡ F.ops.zero }
+    pub fn write_first(&mut self, frame: &mut [F])
+        requires room { length frame.old ≡ 1105 }
+        requires walked { Walked F.ops F.member self.old.row.n self.old.row.d self.old.steps.rows (generator_in F.ops F.member self.old.row.entries.now) (self.old.row.n * suc self.old.row.d) self.old.steps.rank self.old.basics self.old.steps.factors.now self.old.steps.pivots.now self.old.places self.old.found frame.old }
+        requires coprime { Combination F.ops self.old.row.n (generator_in F.ops F.member self.old.row.entries.now) (series F.ops).one }
+        ensures columns { (p : ℕ → ℕ) × FrameColumns F.ops (self.old.row.n - 1) self.old.row.d (generator_in F.ops F.member self.old.row.entries.now) p (column_in F.ops F.member frame.new) }
+        ensures rest { (j i k : ℕ) → j < 8 → i < 8 → k < 17 → (j < self.old.row.n → i < self.old.row.n → ⊥) → at F.ops F.member frame.new (136 * j + 17 * i + k) ≡ F.ops.zero }
         ensures behind { (k : ℕ) → 1088 ≤ k → at F.ops F.member frame.new k ≡ at F.ops F.member frame.old k }
     {
         let rank = self.steps.rank;
         write_unit(self.column);
         self.steps.take_column(self.column);
-        write_at(row, 0, &self.places[..rank], self.column, frame);
+        write_at(&self.row, 0, &self.places[..rank], self.column, frame);
     }
 }

@@ -12,20 +12,30 @@ pub walk-requires : goal.walk-requires
 walk-requires g c =
     let f = g.F.Field in
     let laws = g.met.F.Field in
-    let row = c.args.row.now in
     let w = c.new-walk.result in
     let s = w.steps in
+    let r = generator_in f.ops f.member w.row.entries.now in
     let field : IsField f.ops = field_of laws.laws laws.numbered laws.invertible in
-    let degree : VectorDegree f.ops row.n (generator_in f.ops f.member row.entries.now) row.d = the_degree f.ops field (generator_in f.ops f.member row.entries.now) row.d row.n row.degree in
+    let degree : VectorDegree f.ops w.row.n r w.row.d = the_degree f.ops field r w.row.d w.row.n w.row.degree in
     record {
-      room = (c.new-walk.ensures.rows, omega arith);
+      room = omega arith;
       walked = rw (c.new-walk.ensures.none.0, c.new-walk.ensures.none.1)
-          (Walking.walked_start f.ops field f.member row.n row.d s.rows (generator_in f.ops f.member row.entries.now) row.sized.0 row.sized.1.0 row.sized.1.1 c.new-walk.ensures.rows degree
+          (Walking.walked_start f.ops field f.member w.row.n w.row.d s.rows r w.row.sized.0 w.row.sized.1.0 w.row.sized.1.1 w.wide degree
           s.factors.now s.pivots.now w.places w.found c.args.frame.now c.new-walk.ensures.unmarked c.requires.cleared);
     }
 
 pub write_first-requires : goal.write_first-requires
-write_first-requires g c = record { room = (c.walk.ensures.rows ∙ c.new-walk.ensures.rows, omega arith); walked = c.walk.ensures.walked; coprime = c.requires.coprime }
+write_first-requires g c = record {
+  room = omega arith;
+  walked = rw c.walk.ensures.row c.walk.ensures.walked;
+  coprime = rw (c.walk.ensures.row, c.new-walk.ensures.row) c.requires.coprime;
+}
 
 pub returns : goal.returns
-returns g c = record { columns = c.write_first.ensures.columns; rest = c.write_first.ensures.rest; behind = λ k l. c.write_first.ensures.behind k l ∙ c.walk.ensures.behind k l }
+returns g c =
+    let first = c.write_first.ensures in
+    record {
+      columns = rw (c.walk.ensures.row, c.new-walk.ensures.row) at first.columns;
+      rest = rw (c.walk.ensures.row, c.new-walk.ensures.row) at first.rest;
+      behind = λ k l. first.behind k l ∙ c.walk.ensures.behind k l;
+    }

@@ -7,31 +7,31 @@ use Rattle.scan.specs.Walked.{Walked}
 use Rattle.scan.proofs.walk.Walk.walk.Goals as goal
 
 pub loop-q-init : goal.loop-q-init
-loop-q-init g c = record { rows = refl; walked = c.requires.walked; behind = λ k l. refl }
+loop-q-init g c = record { kept = refl; walked = c.requires.walked; behind = λ k l. refl }
 
 pub walk_place-requires : goal.walk_place-requires
 walk_place-requires g c =
-    let row = c.args.row.now in
+    let row = c.args.self.now.row in
     let more = ap (λ t. row.n * t) (add-one row.d) in
-    record {
+    rw c.loop-q.invariant.kept record {
       place = omega arith;
-      room = (c.loop-q.invariant.rows ∙ c.requires.room.0, omega arith);
+      room = omega arith;
       walked = c.loop-q.invariant.walked;
     }
 
 pub loop-q-preserved : goal.loop-q-preserved
 loop-q-preserved g c =
     let w = c.walk_place.ensures in
-    record { rows = w.rows ∙ c.loop-q.invariant.rows; walked = rw add-one w.walked; behind = λ k l. w.behind k l ∙ c.loop-q.invariant.behind k l }
+    record { kept = w.row ∙ c.loop-q.invariant.kept; walked = rw add-one (rw c.loop-q.invariant.kept at w.walked); behind = λ k l. w.behind k l ∙ c.loop-q.invariant.behind k l }
 
 pub returns : goal.returns
 returns g c =
     let f = g.F.Field in
-    let row = c.args.row.now in
+    let row = c.args.self.now.row in
     let w = c.loop-q.self in
     let all : c.loop-q.q ≡ row.n * suc row.d = let more = ap (λ t. row.n * t) (add-one row.d) in omega arith in
     record {
       walked = subst (λ (q : ℕ). Walked f.ops f.member row.n row.d w.steps.rows (generator_in f.ops f.member row.entries.now) q w.steps.rank w.basics w.steps.factors.now w.steps.pivots.now w.places w.found c.loop-q.frame) all c.loop-q.invariant.walked;
-      rows = c.loop-q.invariant.rows;
+      row = c.loop-q.invariant.kept;
       behind = c.loop-q.invariant.behind;
     }

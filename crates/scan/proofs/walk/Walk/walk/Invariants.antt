@@ -9,9 +9,9 @@ abbrev pub invariant-loop-q : goal.invariant-loop-q
 invariant-loop-q g l =
     let f = g.F.Field in
     let w = l.self in
-    let row = l.row in
+    let row = l.initial.self.row in
     record {
-      rows : w.steps.rows ≡ l.initial.self.steps.rows;
+      kept : w.row ≡ row;
       walked : Walked f.ops f.member row.n row.d w.steps.rows (generator_in f.ops f.member row.entries.now) l.q w.steps.rank w.basics w.steps.factors.now w.steps.pivots.now w.places w.found l.frame;
       behind : (k : ℕ) → 1088 ≤ k → at f.ops f.member l.frame k ≡ at f.ops f.member l.initial.frame k;
     }

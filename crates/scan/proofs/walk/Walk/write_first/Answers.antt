@@ -19,13 +19,13 @@ pub write_at-requires : goal.write_at-requires
 write_at-requires g c =
     let f = g.F.Field in
     let laws = g.met.F.Field in
-    let row = c.args.row.now in
+    let row = c.args.self.now.row in
     let w = c.args.self.now in
     let s = w.steps in
     let field : IsField f.ops = field_of laws.laws laws.numbered laws.invertible in
     let degree : VectorDegree f.ops row.n (generator_in f.ops f.member row.entries.now) row.d = the_degree f.ops field (generator_in f.ops f.member row.entries.now) row.d row.n row.degree in
     let few : s.rank ≤ s.rows = rank_few f.ops s.rows s.rank (column_at f.ops f.member s.rows s.factors.now) (entry_at s.pivots.now) s.valid in
-    let wide : s.rows ≡ suc (row.d + row.d) = c.requires.room.0 in
+    let wide : s.rows ≡ suc (row.d + row.d) = c.args.self.now.wide in
     let room : s.rank ≤ length w.places = omega (arith, row.sized) in
     record {
       column = omega arith;
@@ -39,14 +39,14 @@ pub returns : goal.returns
 returns g c =
     let f = g.F.Field in
     let laws = g.met.F.Field in
-    let row = c.args.row.now in
+    let row = c.args.self.now.row in
     let w = c.args.self.now in
     let s = w.steps in
     let after = c.take_column.new in
     let field : IsField f.ops = field_of laws.laws laws.numbered laws.invertible in
     let degree : VectorDegree f.ops row.n (generator_in f.ops f.member row.entries.now) row.d = the_degree f.ops field (generator_in f.ops f.member row.entries.now) row.d row.n row.degree in
     let few : s.rank ≤ s.rows = rank_few f.ops s.rows s.rank (column_at f.ops f.member s.rows s.factors.now) (entry_at s.pivots.now) s.valid in
-    let wide : s.rows ≡ suc (row.d + row.d) = c.requires.room.0 in
+    let wide : s.rows ≡ suc (row.d + row.d) = c.args.self.now.wide in
     let room : s.rank ≤ length w.places = omega (arith, row.sized) in
     let both =
     Walking.columns_written f.ops field f.member row.n row.d s.rows (generator_in f.ops f.member row.entries.now) row.sized.0 row.sized.1.0 row.sized.1.1 wide degree
