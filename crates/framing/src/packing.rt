@@ -5,6 +5,7 @@ ghost use Rattle.framing.specs.Framing.{column_in, DegreesFrom};
 
 use fields::field::Field;
 use frames::row::row_degree;
+use tables::sizes::GENERATORS;
 
 // The degrees of the columns from j on, that of the first in the lowest byte.
 pub fn pack_degrees<F: Field>(n: usize, frame: &[F], j: usize) -> u64
@@ -13,9 +14,9 @@ pub fn pack_degrees<F: Field>(n: usize, frame: &[F], j: usize) -> u64
     ensures degrees { DegreesFrom F.ops F.member n frame.now j result }
     ensures bound { result < 256 ^ (n - j) }
 {
-    if j == n {
-        return 0;
+    let mut packed = 0;
+    for k in (j..n).rev() {
+        packed = row_degree(n, &frame[GENERATORS * k..]) as u64 + 256 * packed;
     }
-    let degree = row_degree(n, frame, 136 * j) as u64;
-    degree + 256 * pack_degrees(n, frame, j + 1)
+    packed
 }
