@@ -28,11 +28,11 @@ impl<'a, F: Field> Streams<'a, F> {
     {
         // The last time up to t that has symbols: they meet the polynomial's coefficients of s^(t - last) and above.
         let last = t.min(self.times - 1);
-        let symbols = &self.symbols[..self.n * (last + 1)];
         let coefficients = &polynomial[polynomial.len().min(t - last)..];
+        let symbols = self.symbols;
         let mut sum = F::zero();
-        for (coefficient, at_time) in coefficients.iter().zip(symbols.rchunks(self.n)) {
-            sum = sum.add(coefficient.multiply(at_time[i]));
+        for (coefficient, time) in coefficients.iter().zip((0..last + 1).rev()) {
+            sum = sum.add(coefficient.multiply(symbols[self.n * time + i]));
         }
         sum
     }

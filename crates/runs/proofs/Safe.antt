@@ -23,7 +23,7 @@ use Rattle.runs.specs.declared.request.Design.TheVariants as standing
 use Rattle.runs.specs.declared.request.Request.{Request}
 use Rattle.runs.specs.declared.request.Answer.{Answer}
 use Rattle.runs.specs.declared.request.Answer.TheVariants as answered
-use Rattle.runs.specs.Runs.{Performs, Performs.done, Performs.next}
+use Rattle.history.specs.Runs.{Performs, Performs.done, Performs.next}
 use Rattle.runs.specs.Steps.{Held, held, Step, Stands, Sent, PromisedOf, SafeStep, EncodeCall, CheckCall, InvertCall}
 use Rattle.runs.specs.Steps as steps
 

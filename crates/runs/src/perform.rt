@@ -1,6 +1,6 @@
 // The call that performs a list of requests, and the theorem on runs.
 ghost use Rattle.std.specs.Prelude.{◌≡◌, IfOk, IfErr};
-ghost use Rattle.runs.specs.Runs.{Performs};
+ghost use Rattle.history.specs.Runs.{Performs};
 ghost use Rattle.runs.specs.Steps.{Step, SafeStep, Stands, held};
 
 use crate::request::{Answer, Design, Request};

@@ -1,10 +1,10 @@
 use Rattle.std.proofs.Common.{List, vec_items, subst, arith}
 use Rattle.std.specs.Vec.Iter.{into_iter_items}
 use Rattle.std.proofs.lemmas.List.{nil_from_length}
-use Rattle.runs.proofs.Runs.{leads_start, leads_next, leads_end}
+use Rattle.history.proofs.Runs.{leads_start, leads_next, leads_end}
 use Rattle.runs.proofs.Safe.{safe_run}
 use Rattle.runs.specs.declared.request.Request.{Request}
-use Rattle.runs.specs.Runs.{Performs}
+use Rattle.history.specs.Runs.{Performs}
 use Rattle.runs.specs.Steps.{Step, held}
 use Rattle.runs.proofs.perform.perform.Goals as goal
 

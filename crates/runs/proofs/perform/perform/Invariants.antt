@@ -1,7 +1,7 @@
 use Rattle.std.proofs.Common.{◌+◌, ◌≤◌, vec_items, vec_len, vec_capacity}
 use Rattle.std.specs.Vec.Iter.{into_iter_items, into_iter_len}
 use Rattle.runs.specs.Steps.{Step, held}
-use Rattle.runs.proofs.Runs.{Leads}
+use Rattle.history.proofs.Runs.{Leads}
 use Rattle.runs.proofs.perform.perform.Given as goal
 
 abbrev pub invariant-loop-request : goal.invariant-loop-request
