@@ -67,8 +67,14 @@ mod tests {
         assert_eq!(rt; table[135].code(), 0);
         let mut short = [Tone::T7; 135];
         let mut long = [Tone::T7; 137];
-        assert_eq!(rt; read_card(&[], &mut short).err().map(|fault| fault.number()), Some(1));
-        assert_eq!(rt; read_card(&[], &mut long).err().map(|fault| fault.number()), Some(1));
+        assert_eq!(rt;
+            read_card(&[], &mut short).err().map(|fault| fault.number()),
+            Some(1)
+        );
+        assert_eq!(rt;
+            read_card(&[], &mut long).err().map(|fault| fault.number()),
+            Some(1)
+        );
     }
 
     fn fill(draft: &Draft, table: &mut [Tone]) -> Result<(), DesignFault> {

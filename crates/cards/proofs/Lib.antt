@@ -3,6 +3,7 @@ pub mod Generators
 pub mod OneReading
 pub mod Overwriting
 pub mod RoundTrip
+pub mod Rows
 pub mod Terms
 pub mod Walks
 pub mod Whole

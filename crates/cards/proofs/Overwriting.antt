@@ -17,12 +17,6 @@ set_over [] k b = sym (over_nil k (b ∷ []))
 set_over (x ∷ xs) zero b = refl
 set_over (x ∷ xs) (suc k) b = ap (λ l. x ∷ l) (set_over xs k b)
 
-pub length_over : (k : ℕ) (bs xs : List ℕ) → length (over k bs xs) ≡ length xs
-length_over k bs [] = ap length (over_nil k bs)
-length_over zero [] (x ∷ xs) = refl
-length_over zero (b ∷ bs) (x ∷ xs) = ap suc (length_over zero bs xs)
-length_over (suc k) bs (x ∷ xs) = ap suc (length_over k bs xs)
-
 -- one piece, and the next right after it
 pub over_append : (k j : ℕ) (bs cs xs : List ℕ) → j ≡ k + length bs → over j cs (over k bs xs) ≡ over k (bs ++ cs) xs
 over_append k j bs cs [] e = ap (over j cs) (over_nil k bs) ∙ over_nil j cs ∙ sym (over_nil k (bs ++ cs))

@@ -31,6 +31,7 @@ fn write_chain<F: Field>(row: &[F], first: usize, buffer: &mut [u8], place: usiz
     ensures next { result ≡ first + length (terms 0 (map (λ x. F.number (F.member x)) row.now)) }
     ensures after { buffer.new ≡ over place (records first (terms 0 (map (λ x. F.number (F.member x)) row.now))) buffer.old }
 {
+    // Each record points to the one after it, so what is left is counted down.
     let mut left = count_terms(row);
     let mut next = first;
     let mut at = place;

@@ -36,6 +36,7 @@ pub struct PlacedFault {
     pub place: usize,
 }
 
+// Case by case: each refusal has a number and a text of its own.
 impl Refusal for CardFault {
     ghost numbered = { card_number };
 

@@ -109,25 +109,24 @@ impl<'a> Card<'a> {
     }
 }
 
-// Walks the chain that the link at a place enters, and enters its terms into row i of a table, which was zero there.
+// Walks the chain that the link at a place enters, and enters its terms into a row, which was zero.
 fn read_chain<F: Field>(
     card: &Card,
     place: usize,
     floor: usize,
-    table: &mut [F],
-    i: usize,
+    row: &mut [F],
 ) -> Result<(), CardFault>
     requires within { place < length card.now.bytes.now }
-    requires room { 17 * i + 17 ≤ length table.old }
-    requires zeros { (k : ℕ) → k < 17 → F.number (at F.ops F.member table.old (17 * i + k)) ≡ 0 }
-    ensures { MatchResult result (λ _. Entered F.ops F.member F.number F.order card.now.bytes.now floor place i table.old table.new) (λ f. (ts : List Term) × Stops F.order card.now.bytes.now ts floor place f) }
+    requires room { length row.old ≡ 17 }
+    requires zeros { (k : ℕ) → k < 17 → F.number (at F.ops F.member row.old k) ≡ 0 }
+    ensures { MatchResult result (λ _. Entered F.ops F.member F.number F.order card.now.bytes.now floor place 0 row.old row.new) (λ f. (ts : List Term) × Stops F.order card.now.bytes.now ts floor place f) }
 {
     let Some(start) = card.linked(place)? else {
         return Ok(());
     };
     let term = card.coefficient::<F>(start, floor)?;
-    read_chain(card, start + 3, term.power + 1, table, i)?;
-    table[WIDTH * i + term.power] = term.element;
+    read_chain(card, start + 3, term.power + 1, row)?;
+    row[term.power] = term.element;
     Ok(())
 }
 
@@ -137,8 +136,10 @@ fn read_chains<F: Field>(card: &Card, table: &mut [F]) -> Result<(), CardFault>
     requires cleared { Cleared F.ops F.member table.old }
     ensures { MatchResult result (λ _. Gathered F.ops F.member F.number F.order card.now.bytes.now (byte card.now.bytes.now 1) table.new) (λ f. Halted F.order card.now.bytes.now f) }
 {
+    // Rows by ranges: of a table lent out by `chunks_exact_mut`, a proof knows the length alone when it is given back.
     for i in 0..card.n() {
-        read_chain(card, HEADER + i, 0, table, i)?;
+        let row = &mut table[WIDTH * i..WIDTH * (i + 1)];
+        read_chain(card, HEADER + i, 0, row)?;
     }
     Ok(())
 }

@@ -30,20 +30,19 @@ loop-i-preserved g c =
           ∙ c.loop-i.invariant.written;
     }
 
-pub returns-clause-count : goal.returns-clause-count
-returns-clause-count g c =
-    let f = g.F.Field in
-    let none = row_none (λ x. f.number (f.member x)) (chunks_exact_rest (enumerate_source c.loop-i.i-iterator)) (omega (arith, c.in-None.ensures.steps.0.1.0, c.loop-i.invariant.size)) in
-    let all = row_all (λ x. f.number (f.member x)) c.args.n c.args.table.now (omega (arith, c.requires)) in
-    omega (arith, ap term_count none, ap term_count all, c.loop-i.invariant.counted)
-
-pub returns-clause-after : goal.returns-clause-after
-returns-clause-after g c =
+pub returns : goal.returns
+returns g c =
     let f = g.F.Field in
     let k = 3 + enumerate_count c.loop-i.i-iterator in
-    let none = row_none (λ x. f.number (f.member x)) (chunks_exact_rest (enumerate_source c.loop-i.i-iterator)) (omega (arith, c.in-None.ensures.steps.0.1.0, c.loop-i.invariant.size)) in
+    let i = c.loop-i.invariant in
+    let none = row_none (λ x. f.number (f.member x)) (chunks_exact_rest (enumerate_source c.loop-i.i-iterator)) (omega (arith, c.in-None.ensures.steps.0.1.0, i.size)) in
     let all = row_all (λ x. f.number (f.member x)) c.args.n c.args.table.now (omega (arith, c.requires)) in
-    sym (over_nothing k c.loop-i.buffer)
-    ∙ ap (λ gs. over k (heads c.loop-i.next gs) c.loop-i.buffer) (sym none)
-    ∙ c.loop-i.invariant.written
-    ∙ ap (λ gs. over 3 (heads 1 gs) c.args.buffer.now) all
+    record {
+      count = omega (arith, ap term_count none, ap term_count all, i.counted);
+      bound = omega (arith, i.few, i.rows);
+      after =
+          sym (over_nothing k c.loop-i.buffer)
+          ∙ ap (λ gs. over k (heads c.loop-i.next gs) c.loop-i.buffer) (sym none)
+          ∙ i.written
+          ∙ ap (λ gs. over 3 (heads 1 gs) c.args.buffer.now) all;
+    }

@@ -1,5 +1,6 @@
-use Rattle.std.proofs.Common.{rules}
+use Rattle.std.proofs.Common.{◌≡◌, ℕ, ◌+◌, ◌*◌, set, subst, arith, rules}
 use Rattle.std.proofs.lemmas.Result.{err_from_is_err_and}
+use Rattle.cards.specs.Reading.{Entered}
 use Rattle.cards.proofs.Walks.{stops_later, enters_here}
 use Rattle.cards.proofs.read.+read_chain.Goals as goal
 
@@ -13,7 +14,10 @@ returns-in_err-read_chain g t c =
 pub returns : goal.returns
 returns g t c =
     let f = g.F.Field in
+    let card = c.args.card.now.bytes.now in
     let named = rw c.in-Some.is at c.in_ok-start.ensures in
     let term = c.in_ok-term.ensures in
-    enters_here f.order c.args.card.now.bytes.now c.args.floor c.args.place _ named.2 named.0 named.1 f.ops f.member f.number c.args.i _ c.args.table.now c.read_chain.new.table _
-    (search rules) term.answer term.value.0 term.value.1 c.in_ok-read_chain.ensures
+    let first : 17 * 0 + c.in_ok-term.term.power ≡ c.in_ok-term.term.power = omega arith in
+    subst (λ (k : ℕ). Entered f.ops f.member f.number f.order card c.args.floor c.args.place 0 c.args.row.now (set c.read_chain.new.row k c.in_ok-term.term.element)) first
+    (enters_here f.order card c.args.floor c.args.place _ named.2 named.0 named.1 f.ops f.member f.number 0 _ c.args.row.now c.read_chain.new.row _
+    (search rules) term.answer term.value.0 term.value.1 c.in_ok-read_chain.ensures)
