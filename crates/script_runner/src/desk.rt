@@ -1,5 +1,6 @@
 // The tables of one field, and the design that stands in them.
 use crate::elements::zeros;
+use crate::stopped::Reason;
 use design::draft::Draft;
 use design::framed::Framed;
 use fields::field::Field;
@@ -22,42 +23,25 @@ impl<F: Field> Desk<F> {
             frame: zeros(heap, 1105)?,
         })
     }
-}
 
-// Where a design stands, by its numbers.
-#[derive(Clone, Copy)]
-pub enum Standing {
-    Nothing,
-    Draft {
-        n: usize,
-    },
-    Framed {
-        n: usize,
-        degree: usize,
-        divisor: usize,
-        columns: u64,
-    },
-}
-
-// Where a design stands.
-pub fn standing_of(design: &Design) -> Standing {
-    match design {
-        Design::Draft(draft) => Standing::Draft { n: draft.count() },
-        Design::Framed(framed) => Standing::Framed {
-            n: framed.generators(),
-            degree: framed.degree(),
-            divisor: framed.divisor_degree(),
-            columns: framed.columns(),
-        },
+    // The design that stands.
+    pub fn design(&self) -> Result<&Design, Reason> {
+        self.design.as_ref().ok_or(Reason::NoDesign)
     }
-}
 
-impl<F: Field> Desk<F> {
-    // Where the design stands, if there is one.
-    pub fn standing(&self) -> Standing {
-        match &self.design {
-            None => Standing::Nothing,
-            Some(design) => standing_of(design),
+    // The same, where it is a draft.
+    pub fn draft(&self) -> Result<&Draft, Reason> {
+        match self.design()? {
+            Design::Draft(draft) => Ok(draft),
+            Design::Framed(_) => Err(Reason::Framed),
+        }
+    }
+
+    // The same, where it is framed.
+    pub fn framed(&self) -> Result<&Framed, Reason> {
+        match self.design()? {
+            Design::Draft(_) => Err(Reason::Draft),
+            Design::Framed(framed) => Ok(framed),
         }
     }
 }

@@ -6,6 +6,6 @@ mod desk;
 mod elements;
 pub mod input;
 mod offered;
-mod reason;
 pub mod run;
+mod stopped;
 mod text;

@@ -1,36 +1,26 @@
 // The columns of an offer as a table.
 use crate::elements::zeros;
+use crate::stopped::Stopped;
 use fields::fault::FieldFault;
 use fields::field::Field;
-use std::alloc::{AllocError, Global};
+use std::alloc::Global;
 
 // Whether a column has at most 8 components of at most 17 coefficients.
 fn column_fits(column: &[Vec<u32>]) -> bool {
-    let mut fits = column.len() <= 8;
-    for component in column {
-        fits = fits && component.len() <= 17;
-    }
-    fits
+    column.len() <= 8 && column.iter().all(|component| component.len() <= 17)
 }
 
 // Whether there are at most 8 columns, and each fits.
 fn columns_fit(columns: &[Vec<Vec<u32>>]) -> bool {
-    let mut fits = columns.len() <= 8;
-    for column in columns {
-        fits = fits && column_fits(column);
-    }
-    fits
+    columns.len() <= 8 && columns.iter().all(|column| column_fits(column))
 }
 
-// Writes the coefficients of a component from a place on.
-fn write_component<F: Field>(
-    table: &mut [F],
-    base: usize,
-    codes: &[u32],
-) -> Result<(), FieldFault> {
-    for (k, code) in codes.iter().enumerate() {
+// Writes the coefficients of a component, as far as there are places.
+fn write_component<F: Field>(table: &mut [F], codes: &[u32]) -> Result<(), FieldFault> {
+    let mut places = table.iter_mut();
+    for code in codes {
         let x = F::element(*code)?;
-        if let Some(place) = table.get_mut(base.saturating_add(k)) {
+        if let Some(place) = places.next() {
             *place = x;
         }
     }
@@ -38,35 +28,27 @@ fn write_component<F: Field>(
 }
 
 // Writes a column.
-fn write_column<F: Field>(
-    table: &mut [F],
-    j: usize,
-    column: &[Vec<u32>],
-) -> Result<(), FieldFault> {
-    for (i, component) in column.iter().enumerate() {
-        let base = j.saturating_mul(136).saturating_add(i.saturating_mul(17));
-        write_component(table, base, component)?;
+fn write_column<F: Field>(table: &mut [F], column: &[Vec<u32>]) -> Result<(), FieldFault> {
+    let mut parts = table.chunks_mut(17);
+    for component in column {
+        write_component(parts.next().unwrap_or(&mut []), component)?;
     }
     Ok(())
 }
 
 // Writes the columns, one behind the other.
 fn write_columns<F: Field>(table: &mut [F], columns: &[Vec<Vec<u32>>]) -> Result<(), FieldFault> {
-    for (j, column) in columns.iter().enumerate() {
-        write_column(table, j, column)?;
+    let mut parts = table.chunks_mut(136);
+    for column in columns {
+        write_column(parts.next().unwrap_or(&mut []), column)?;
     }
     Ok(())
 }
 
-// The offered table, or the field's refusal of a code. Columns that do not fit give a table that is one too long, which the call refuses. The outer Err: no memory.
-pub fn offered<F: Field>(
-    heap: Global,
-    columns: &[Vec<Vec<u32>>],
-) -> Result<Result<Vec<F>, FieldFault>, AllocError> {
+// The offered table. Columns that do not fit give a table that is one too long, which the call refuses.
+pub fn offered<F: Field>(heap: Global, columns: &[Vec<Vec<u32>>]) -> Result<Vec<F>, Stopped> {
     let length = if columns_fit(columns) { 1088 } else { 1089 };
     let mut table = zeros(heap, length)?;
-    match write_columns(&mut table, columns) {
-        Ok(_) => Ok(Ok(table)),
-        Err(fault) => Ok(Err(fault)),
-    }
+    write_columns(&mut table, columns)?;
+    Ok(table)
 }

@@ -4,7 +4,7 @@ use crate::desk::Desk;
 use nibbles::Nibble;
 use scripts::call::{Call, FieldName};
 use scripts::line::{Line, read_line};
-use scripts::words::{Mark, cut_at};
+use scripts::words::{Mark, Pieces};
 use std::alloc::{AllocError, Global};
 use tones::Tone;
 use towers::{Byte, TonePair};
@@ -65,17 +65,10 @@ impl Place {
 // Performs a script, and prints what is to be printed of each line.
 pub fn run(rt: &HostRuntime, script: &[u8]) -> anyhow::Result<()> {
     let mut place = Place::new(rt.alloc())?;
-    let mut number = 1u64;
-    let mut left = script;
-    loop {
-        let cut = cut_at(left, Mark::Newline);
-        if let Some(text) = place.line(rt.alloc(), number, cut.piece)? {
+    for (number, line) in (1u64..).zip(Pieces::of(script, Mark::Newline)) {
+        if let Some(text) = place.line(rt.alloc(), number, line)? {
             println!(rt; "{text}")?;
         }
-        match cut.rest {
-            Some(rest) => left = rest,
-            None => return Ok(()),
-        }
-        number = number.saturating_add(1);
     }
+    Ok(())
 }
