@@ -1,87 +1,79 @@
 // Blocks and products by their definition: sums of products of coefficients.
-use crate::codes::{member_of, sum_product};
-use crate::rows::{POWERS, Row};
+use crate::codes::{add_product, member_of, sum_product, top_of};
+use crate::rows::Row;
+use crate::sizes::{LENGTH, POWERS, ROW};
 use fields::field::Field;
 
 // The code of the symbol at a place, 0 past the end.
 pub fn code_at<F: Field>(symbols: &[F], place: usize) -> u16 {
-    match symbols.get(place) {
-        Some(x) => x.code(),
-        None => 0,
-    }
+    symbols.get(place).map_or(0, |x| x.code())
 }
 
-// The symbol of stream i at time t of the block of a message.
-fn symbol<F: Field>(row: &Row, message: &[F], i: usize, t: usize) -> u16 {
+// The symbol at a place of the block of a message: that of stream i at time t.
+fn symbol<F: Field>(row: &Row, message: &[F], place: usize) -> u16 {
+    let time = place / row.n;
     let mut sum = 0;
-    for k in 0..POWERS {
-        if let Some(before) = t.checked_sub(k) {
-            let coefficient = member_of::<F>(row.coefficient(i, k));
-            sum = sum_product(sum, coefficient, code_at(message, before));
-        }
+    for (before, code) in (0..=time).rev().zip(&row.polynomials[place % row.n]) {
+        sum = sum_product(sum, member_of::<F>(*code), code_at(message, before));
     }
     sum
 }
 
-// How many symbols of a block are not those of the block of a message.
-pub fn wrong_symbols<F: Field>(row: &Row, message: &[F], block: &[F]) -> usize {
-    let mut wrong = 0usize;
-    for place in 0..block.len() {
-        if let (Some(t), Some(i)) = (place.checked_div(row.n), place.checked_rem(row.n)) {
-            if code_at(block, place) != symbol(row, message, i, t) {
-                wrong = wrong.saturating_add(1);
-            }
-        }
-    }
-    wrong
+// Whether a block is the block of a message.
+pub fn is_block<F: Field>(row: &Row, message: &[F], block: &[F]) -> bool {
+    block
+        .iter()
+        .enumerate()
+        .all(|(place, x)| x.code() == symbol(row, message, place))
 }
 
-// The product of polynomial i of a row and the polynomial of 17 coefficients from a place of a table on, at power k.
-fn term<F: Field>(row: &Row, table: &[F], i: usize, base: usize, k: usize) -> u16 {
-    let mut sum = 0;
-    for e in 0..POWERS {
-        if let Some(rest) = k.checked_sub(e) {
-            if rest < POWERS {
-                let coefficient = member_of::<F>(row.coefficient(i, e));
-                sum = sum_product(sum, coefficient, code_at(table, base.saturating_add(rest)));
-            }
-        }
-    }
-    sum
+// Column j of a frame table, its components one after the other; none where there is no such column.
+pub fn column<F: Field>(frame: &[F], j: usize) -> &[F] {
+    frame.chunks(ROW).nth(j).unwrap_or(&[])
 }
 
-// The coefficient of s^k in the product of a row and column j of a frame.
-pub fn product_at<F: Field>(row: &Row, frame: &[F], j: usize, k: usize) -> u16 {
-    let mut sum = 0;
-    for i in 0..row.n {
-        let base = j
-            .saturating_mul(136)
-            .saturating_add(i.saturating_mul(POWERS));
-        sum = sum_product(sum, F::one(), term(row, frame, i, base, k));
-    }
-    sum
+// Component i of a column; none where there is no such component.
+pub fn component<F: Field>(column: &[F], i: usize) -> &[F] {
+    column.chunks(POWERS).nth(i).unwrap_or(&[])
 }
 
-// How two messages differ.
-#[derive(Clone, Copy)]
-pub struct Difference {
-    // In how many symbols.
-    pub count: usize,
-    // Whether only at the times asked for.
-    pub between: bool,
+// The codes of a component.
+fn codes_of<F: Field>(component: &[F]) -> [u16; POWERS] {
+    let mut codes = [0; POWERS];
+    for (code, x) in codes.iter_mut().zip(component) {
+        *code = x.code();
+    }
+    codes
 }
 
-// How two messages differ, and whether only from one time to another.
-pub fn compare_messages<F: Field>(left: &[F], right: &[F], from: usize, to: usize) -> Difference {
-    let mut found = Difference {
-        count: 0,
-        between: true,
-    };
-    for place in 0..left.len().max(right.len()) {
-        if code_at(left, place) != code_at(right, place) {
-            found.count = found.count.saturating_add(1);
-            found.between = found.between && from <= place && place <= to;
-        }
+// The highest power with a coefficient that is not zero in the first n components of a column, absent if there is none.
+pub fn degree_of<F: Field>(n: usize, column: &[F]) -> Option<usize> {
+    column
+        .chunks(POWERS)
+        .take(n)
+        .filter_map(|component| top_of(&codes_of(component)))
+        .max()
+}
+
+// The product of a row and a column.
+pub fn product_with<F: Field>(row: &Row, column: &[F]) -> [u16; LENGTH] {
+    let mut product = [0; LENGTH];
+    for (polynomial, component) in row.polynomials().iter().zip(column.chunks(POWERS)) {
+        add_product::<F>(&mut product, &codes_of(component), polynomial);
     }
-    found
+    product
+}
+
+// In how many symbols two messages of one length differ.
+pub fn differences<F: Field>(left: &[F], right: &[F]) -> usize {
+    left.iter()
+        .zip(right)
+        .filter(|(x, y)| x.code() != y.code())
+        .count()
+}
+
+// Whether two messages of one length are the same but from one time to another.
+pub fn same_outside<F: Field>(left: &[F], right: &[F], from: usize, to: usize) -> bool {
+    left.iter().zip(right).enumerate().all(|(time, (x, y))| (from <= time && time <= to)
+        || x.code() == y.code())
 }

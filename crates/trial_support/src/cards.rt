@@ -1,205 +1,135 @@
 // Cards by their layout: what a design's card holds byte for byte, and what any bytes mean as a card.
-use crate::rows::{POWERS, Row};
+use crate::faults::Fault;
+use crate::rows::Row;
+use crate::sizes::{GENERATORS, POWERS};
 use fields::field::Field;
+use std::alloc::{AllocError, Global};
 
-// The longest card: 8 generators of 17 terms.
-pub const LONGEST: usize = 555;
-
-// The bytes of a card, zeros after its length.
-#[derive(Clone, Copy)]
-pub struct Card {
-    pub bytes: [u8; 555],
-    pub length: usize,
+// How many coefficients of a list are not zero, as a byte.
+fn terms(list: &[u16]) -> u8 {
+    let count = list.iter().filter(|code| **code != 0).count();
+    u8::try_from(count).unwrap_or(u8::MAX)
 }
 
-impl Card {
-    fn put(&mut self, place: usize, byte: usize) {
-        if place < LONGEST {
-            self.bytes[place] = u8::try_from(byte).unwrap_or(255);
-        }
+// Appends the number of the first record of each polynomial, 0 where it is zero, as the layout has it.
+fn push_heads(card: &mut Vec<u8>, row: &Row) -> Result<(), AllocError> {
+    let mut number = 1u8;
+    for polynomial in row.polynomials() {
+        let terms = terms(polynomial);
+        card.push(if terms == 0 { 0 } else { number })?;
+        number = number.saturating_add(terms);
     }
-
-    // Appends a byte.
-    fn push(&mut self, byte: usize) {
-        self.put(self.length, byte);
-        self.length = self.length.saturating_add(1);
-    }
+    Ok(())
 }
 
-// The number of terms of polynomial i above power k.
-fn terms_above(row: &Row, i: usize, k: usize) -> usize {
-    let mut count = 0usize;
-    for e in 0..POWERS {
-        if k < e && row.coefficient(i, e) != 0 {
-            count = count.saturating_add(1);
+// Appends the records of a polynomial, each with the number of the next, 0 at the last.
+fn push_chain(card: &mut Vec<u8>, polynomial: &[u16], first: u8) -> Result<(), AllocError> {
+    let mut next = first;
+    let mut left = terms(polynomial);
+    for (power, code) in (0u8..17).zip(polynomial) {
+        if *code != 0 {
+            next = next.saturating_add(1);
+            left = left.saturating_sub(1);
+            let [low, high] = code.to_le_bytes();
+            card.extend_from_slice(&[power, low, high, if left == 0 { 0 } else { next }])?;
         }
     }
-    count
-}
-
-// Appends the records of polynomial i; the first of them is the record of a number.
-fn push_chain(card: &mut Card, row: &Row, i: usize, first: usize) -> usize {
-    let mut number = first;
-    for k in 0..POWERS {
-        let code = usize::from(row.coefficient(i, k));
-        if code != 0 {
-            number = number.saturating_add(1);
-            let next = if terms_above(row, i, k) == 0 {
-                0
-            } else {
-                number
-            };
-            card.push(k);
-            card.push(code % 256);
-            card.push(code / 256);
-            card.push(next);
-        }
-    }
-    number
+    Ok(())
 }
 
 // The card of a row.
-pub fn card_of<F: Field>(row: &Row) -> Card {
-    let mut card = Card {
-        bytes: [0; 555],
-        length: row.n.saturating_add(3),
-    };
-    let mut number = 1;
-    for i in 0..row.n {
-        let head = if row.is_zero(i) { 0 } else { number };
-        card.put(i.saturating_add(3), head);
-        number = push_chain(&mut card, row, i, number);
+pub fn card_of<F: Field>(heap: Global, row: &Row) -> Result<Vec<u8>, AllocError> {
+    let n = u8::try_from(row.n).unwrap_or(u8::MAX);
+    let mut card = vec![in heap; F::kind(), n, terms(row.polynomials.as_flattened())]?;
+    push_heads(&mut card, row)?;
+    let mut first = 1u8;
+    for polynomial in row.polynomials() {
+        push_chain(&mut card, polynomial, first)?;
+        first = first.saturating_add(terms(polynomial));
     }
-    card.put(0, usize::from(F::kind()));
-    card.put(1, row.n);
-    card.put(2, number.saturating_sub(1));
-    card
-}
-
-// What bytes mean as a card: a row, or the number and place of the first fault.
-#[derive(Clone, Copy)]
-pub enum Meaning {
-    Design(Row),
-    Fault { number: u8, place: usize },
+    Ok(card)
 }
 
 // The byte at a place, 0 past the end.
-fn byte(card: &[u8], place: usize) -> usize {
-    match card.get(place) {
-        Some(x) => usize::from(*x),
-        None => 0,
-    }
+fn byte(card: &[u8], place: usize) -> u8 {
+    card.get(place).map_or(0, |x| *x)
 }
 
-// The code of the record at a place.
-fn code_at(card: &[u8], place: usize) -> usize {
-    let high = byte(card, place.saturating_add(2));
-    byte(card, place.saturating_add(1)).saturating_add(high.saturating_mul(256))
-}
-
-// How the walk of one chain ends.
-enum Walk {
-    // At a link that is zero.
-    End,
-    // At a record: its place.
-    Record(usize),
-    Fault(u8, usize),
-}
-
-// Follows the link at a place.
-fn follow(card: &[u8], place: usize) -> Walk {
+// The place of the record that the link at a place leads to, absent where it is zero.
+fn follow(card: &[u8], place: usize) -> Result<Option<usize>, Fault> {
     let link = byte(card, place);
     if byte(card, 2) < link {
-        return Walk::Fault(15, place);
+        return Err(Fault::new(15, place));
     }
-    match link.checked_sub(1) {
-        None => Walk::End,
-        Some(before) => Walk::Record(
-            byte(card, 1)
-                .saturating_add(before.saturating_mul(4))
-                .saturating_add(3),
-        ),
-    }
+    let heads = usize::from(byte(card, 1));
+    Ok(
+        link.checked_sub(1)
+            .map(|before| 3 + heads + 4 * usize::from(before)),
+    )
 }
 
-// The fault of the record at a place whose power must be above a floor, 0 if it has none.
-fn record_fault<F: Field>(card: &[u8], place: usize, floor: usize) -> (u8, usize) {
-    let power = byte(card, place);
+// A record of a chain.
+#[derive(Clone, Copy)]
+struct Record {
+    power: u8,
+    code: u16,
+}
+
+// The record at a place, whose power must not be below a floor.
+fn read_record<F: Field>(card: &[u8], place: usize, floor: u8) -> Result<Record, Fault> {
     let low = place.saturating_add(1);
-    let code = code_at(card, place);
+    let power = byte(card, place);
+    let code = u16::from_le_bytes([byte(card, low), byte(card, low.saturating_add(1))]);
     if 16 < power {
-        (4, place)
+        Err(Fault::new(4, place))
     } else if power < floor {
-        (16, place)
-    } else if usize::try_from(F::size()).unwrap_or(0) <= code {
-        (5, low)
+        Err(Fault::new(16, place))
+    } else if F::size() <= u32::from(code) {
+        Err(Fault::new(5, low))
     } else if code == 0 {
-        (17, low)
+        Err(Fault::new(17, low))
     } else {
-        (0, 0)
+        Ok(Record { power, code })
     }
 }
 
-// Enters the record at a place into polynomial i, and answers its power.
-fn enter_record(card: &[u8], place: usize, row: &mut Row, i: usize) -> usize {
-    let power = byte(card, place);
-    row.put(i, power, u16::try_from(code_at(card, place)).unwrap_or(0));
-    power
-}
-
-// Walks the chain of polynomial i, of at most 17 records; answers the fault's number and place, 0 if there is none.
-fn walk_chain<F: Field>(card: &[u8], row: &mut Row, i: usize) -> (u8, usize) {
+// Enters the chain of polynomial i, of at most 17 records, into a row.
+fn walk_chain<F: Field>(card: &[u8], row: &mut Row, i: usize) -> Result<(), Fault> {
     let mut link = i.saturating_add(3);
     let mut floor = 0;
-    for _ in 0..POWERS + 1 {
-        match follow(card, link) {
-            Walk::End => return (0, 0),
-            Walk::Fault(number, place) => return (number, place),
-            Walk::Record(place) => {
-                let fault = record_fault::<F>(card, place, floor);
-                if fault.0 != 0 {
-                    return fault;
-                }
-                floor = enter_record(card, place, row, i).saturating_add(1);
-                link = place.saturating_add(3);
-            }
-        }
-    }
-    (16, link)
-}
-
-// The fault that is met before any chain is walked, 0 if there is none.
-fn early_fault<F: Field>(card: &[u8]) -> u8 {
-    let n = byte(card, 1);
-    let length = n
-        .saturating_add(byte(card, 2).saturating_mul(4))
-        .saturating_add(3);
-    if card.len() < 3 || card.len() != length {
-        13
-    } else if byte(card, 0) != usize::from(F::kind()) {
-        14
-    } else if n < 2 || 8 < n {
-        2
-    } else {
-        0
-    }
-}
-
-pub fn meaning_of<F: Field>(card: &[u8]) -> Meaning {
-    let early = early_fault::<F>(card);
-    if early != 0 {
-        return Meaning::Fault {
-            number: early,
-            place: 0,
+    for _ in 0..=POWERS {
+        let Some(place) = follow(card, link)? else {
+            return Ok(());
         };
+        let Record { power, code } = read_record::<F>(card, place, floor)?;
+        row.put(i, usize::from(power), code);
+        floor = power.saturating_add(1);
+        link = place.saturating_add(3);
     }
-    let n = byte(card, 1);
+    Err(Fault::new(16, link))
+}
+
+// The number of generators of a card, by the questions that are asked before any chain is walked.
+fn read_head<F: Field>(card: &[u8]) -> Result<usize, Fault> {
+    let n = usize::from(byte(card, 1));
+    let length = 3 + n + 4 * usize::from(byte(card, 2));
+    if card.len() < 3 || card.len() != length {
+        Err(Fault::new(13, 0))
+    } else if byte(card, 0) != F::kind() {
+        Err(Fault::new(14, 0))
+    } else if n < 2 || GENERATORS < n {
+        Err(Fault::new(2, 0))
+    } else {
+        Ok(n)
+    }
+}
+
+// What bytes mean as a card: a row, or the first fault.
+pub fn meaning_of<F: Field>(card: &[u8]) -> Result<Row, Fault> {
+    let n = read_head::<F>(card)?;
     let mut row = Row::zeros(n);
     for i in 0..n {
-        let (number, place) = walk_chain::<F>(card, &mut row, i);
-        if number != 0 {
-            return Meaning::Fault { number, place };
-        }
+        walk_chain::<F>(card, &mut row, i)?;
     }
-    Meaning::Design(row)
+    Ok(row)
 }

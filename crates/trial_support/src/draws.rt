@@ -17,19 +17,16 @@ impl Draws {
             .state
             .wrapping_mul(6_364_136_223_846_793_005)
             .wrapping_add(1_442_695_040_888_963_407);
-        if bound == 0 {
-            return 0;
-        }
-        let drawn = (self.state >> 33) % u64::from(bound);
-        u32::try_from(drawn).unwrap_or(0)
+        let drawn = (self.state >> 33).checked_rem(u64::from(bound));
+        u32::try_from(drawn.unwrap_or(0)).unwrap_or(0)
     }
 
     // The next number below a bound, as a place.
     pub fn place(&mut self, bound: usize) -> usize {
-        match u32::try_from(bound) {
-            Ok(small) => usize::try_from(self.below(small)).unwrap_or(0),
-            Err(_) => 0,
-        }
+        let Ok(bound) = u32::try_from(bound) else {
+            return 0;
+        };
+        usize::try_from(self.below(bound)).unwrap_or(0)
     }
 
     // The code of any member.
@@ -39,7 +36,7 @@ impl Draws {
 
     // The code of any member but zero.
     pub fn nonzero<F: Field>(&mut self) -> u16 {
-        let code = self.below(F::size().saturating_sub(1));
+        let code = self.below(F::size() - 1);
         u16::try_from(code).unwrap_or(0).saturating_add(1)
     }
 }

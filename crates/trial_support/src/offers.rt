@@ -1,75 +1,44 @@
 // Frames made elsewhere: frames changed at random, and the verdict on what is offered.
-use crate::blocks::{code_at, product_at};
+use crate::blocks::{code_at, column, degree_of, product_with};
 use crate::bounds::{Bounds, Echelon};
-use crate::codes::{member_of, product, sum_product};
+use crate::codes::{add_shifted, member_of, scale};
 use crate::draws::Draws;
-use crate::rows::{POWERS, Row};
+use crate::faults::Fault;
+use crate::rows::Row;
+use crate::sizes::{FRAME, GENERATORS, LENGTH, POWERS, ROW};
 use fields::field::Field;
 
-// The columns of a frame by codes: power k of component i in column j at 136 j + 17 i + k.
+// The columns of a frame by codes: power k of component i of a column at 17 i + k.
 #[derive(Clone, Copy)]
 pub struct Offered {
-    pub columns: [u16; 1088],
+    pub columns: [[u16; ROW]; GENERATORS],
+}
+
+// Adds x s^by times a column to another; what would pass s^16 is dropped.
+fn add_column<F: Field>(column: &mut [u16; ROW], by: usize, x: F, other: &[u16; ROW]) {
+    for (sum, component) in column.chunks_mut(POWERS).zip(other.chunks(POWERS)) {
+        add_shifted(sum, by, x, component);
+    }
 }
 
 impl Offered {
     // The columns of a frame table.
-    pub fn of(frame: &[u16; 1105]) -> Offered {
-        let mut columns = [0; 1088];
-        for place in 0..1088usize {
-            columns[place] = frame[place];
+    pub fn of(frame: &[u16; FRAME]) -> Offered {
+        let mut columns = [[0; ROW]; GENERATORS];
+        for (column, codes) in columns.iter_mut().zip(frame.chunks_exact(ROW)) {
+            column.copy_from_slice(codes);
         }
         Offered { columns }
     }
 
-    // The place of power k of entry e of column j, where e counts all powers of all components.
-    fn place(j: usize, e: usize) -> usize {
-        j.saturating_mul(136).saturating_add(e)
-    }
-
-    fn at(&self, place: usize) -> u16 {
-        if place < 1088 { self.columns[place] } else { 0 }
-    }
-
-    fn put(&mut self, place: usize, code: u16) {
-        if place < 1088 {
-            self.columns[place] = code;
-        }
-    }
-
-    // Adds x s^by times column l to column j; what would pass s^16 is dropped.
-    fn add_column<F: Field>(&mut self, j: usize, l: usize, by: usize, x: F) {
-        for e in 0..136usize {
-            if (e % POWERS).saturating_add(by) < POWERS {
-                let place = Offered::place(j, e.saturating_add(by));
-                let sum = sum_product(self.at(place), x, self.at(Offered::place(l, e)));
-                self.put(place, sum);
-            }
-        }
-    }
-
-    fn scale_column<F: Field>(&mut self, j: usize, x: F) {
-        for e in 0..136usize {
-            let place = Offered::place(j, e);
-            self.put(place, product(self.at(place), x));
-        }
-    }
-
-    fn swap_columns(&mut self, j: usize, l: usize) {
-        for e in 0..136usize {
-            let here = self.at(Offered::place(j, e));
-            let there = self.at(Offered::place(l, e));
-            self.put(Offered::place(j, e), there);
-            self.put(Offered::place(l, e), here);
-        }
-    }
-
     // Fills the rows and columns from n on, which are not read, with ones.
     pub fn spoil_rest(&mut self, n: usize) {
-        for place in 0..1088usize {
-            if n <= place / 136 || n <= place % 136 / POWERS {
-                self.columns[place] = 1;
-            }
+        for (j, column) in self.columns.iter_mut().enumerate() {
+            let read = if j < n { n } else { 0 };
+            column
+                .chunks_mut(POWERS)
+                .skip(read)
+                .for_each(|component| component.fill(1));
         }
     }
 
@@ -77,81 +46,36 @@ impl Offered {
     pub fn change<F: Field>(&mut self, draws: &mut Draws, n: usize) {
         let j = draws.place(n);
         let l = draws.place(n.saturating_sub(1)).saturating_add(1);
+        let (Some(other), Some(column)) = (self.columns.get(l).copied(), self.columns.get_mut(j))
+        else {
+            return;
+        };
         match draws.below(6) {
-            0 => self.put(
-                Offered::place(j, draws.place(n.saturating_mul(POWERS))),
-                draws.code::<F>(),
-            ),
-            1 => self.scale_column(j, member_of::<F>(draws.nonzero::<F>())),
-            2 => self.swap_columns(j, l),
-            3 => self.add_column(j, l, 0, F::one()),
+            0 => {
+                let place = draws.place(n.saturating_mul(POWERS));
+                let code = draws.code::<F>();
+                if let Some(changed) = column.get_mut(place) {
+                    *changed = code;
+                }
+            }
+            1 => scale(column, member_of::<F>(draws.nonzero::<F>())),
+            2 => self.columns.swap(j, l),
+            3 => add_column(column, 0, F::one(), &other),
             _ => {
                 if j != l {
                     let by = draws.place(3);
-                    self.add_column(j, l, by, member_of::<F>(draws.nonzero::<F>()));
+                    add_column(column, by, member_of::<F>(draws.nonzero::<F>()), &other);
                 }
             }
         }
     }
 }
 
-// The number and place of the first question that is answered no, zeros if there is none.
-#[derive(Clone, Copy, PartialEq, Eq)]
-pub struct Verdict {
-    pub number: u8,
-    pub place: usize,
-}
-
-impl Verdict {
-    pub fn refused(number: u8, place: usize) -> Verdict {
-        Verdict { number, place }
-    }
-}
-
-// Whether the row times column j is a list of 33 codes.
-fn product_is<F: Field>(row: &Row, offered: &[F], j: usize, list: &[u16; 33]) -> bool {
-    let mut is = true;
-    for k in 0..33usize {
-        is = is && product_at(row, offered, j, k) == list[k];
-    }
-    is
-}
-
-// The lowest check column that the row does not send to zero.
-fn lowest_bad<F: Field>(row: &Row, offered: &[F]) -> Option<usize> {
-    for j in 1..row.n {
-        if !product_is(row, offered, j, &[0; 33]) {
-            return Some(j);
-        }
-    }
-    None
-}
-
-// The degree of column j, absent where it is zero.
-fn degree_of<F: Field>(n: usize, offered: &[F], j: usize) -> Option<usize> {
-    let mut degree = None;
-    for step in 0..136usize {
-        let power = step / 8;
-        let place = j
-            .saturating_mul(136)
-            .saturating_add((step % 8).saturating_mul(POWERS));
-        if step % 8 < n && code_at(offered, place.saturating_add(power)) != 0 {
-            degree = Some(power);
-        }
-    }
-    degree
-}
-
-// The coefficients of column j at a power, component by component.
-fn leading_list<F: Field>(n: usize, offered: &[F], j: usize, power: usize) -> [u16; 33] {
-    let mut list = [0; 33];
-    for i in 0..8usize {
-        if i < n {
-            let place = j
-                .saturating_mul(136)
-                .saturating_add(i.saturating_mul(POWERS));
-            list[i] = code_at(offered, place.saturating_add(power));
-        }
+// The coefficients of a column at a power, component by component.
+fn leading_list<F: Field>(n: usize, column: &[F], power: usize) -> [u16; LENGTH] {
+    let mut list = [0; LENGTH];
+    for (x, component) in list.iter_mut().zip(column.chunks(POWERS).take(n)) {
+        *x = code_at(component, power);
     }
     list
 }
@@ -161,49 +85,45 @@ fn degrees_are_right<F: Field>(n: usize, offered: &[F], d: usize) -> bool {
     let mut echelon = Echelon::empty();
     let mut before = 0;
     let mut sum = 0usize;
-    for j in 1..n {
-        let Some(degree) = degree_of(n, offered, j) else {
+    for column in offered.chunks(ROW).take(n).skip(1) {
+        let Some(degree) = degree_of(n, column).filter(|degree| before <= *degree) else {
             return false;
         };
-        if degree < before {
-            return false;
-        }
         before = degree;
         sum = sum.saturating_add(degree);
-        echelon.insert::<F>(leading_list(n, offered, j, degree));
+        echelon.insert::<F>(leading_list(n, column, degree));
     }
     sum == d && echelon.rank().saturating_add(1) == n
 }
 
 // Whether the leading vector of column 0 is no combination of those of check columns of no higher degree.
 fn first_is_outside<F: Field>(n: usize, offered: &[F]) -> bool {
-    let mut echelon = Echelon::empty();
-    let Some(first) = degree_of(n, offered, 0) else {
+    let first = column(offered, 0);
+    let Some(bound) = degree_of(n, first) else {
         return false;
     };
-    for j in 1..n {
-        if let Some(degree) = degree_of(n, offered, j) {
-            if degree <= first {
-                echelon.insert::<F>(leading_list(n, offered, j, degree));
-            }
+    let mut echelon = Echelon::empty();
+    for column in offered.chunks(ROW).take(n).skip(1) {
+        if let Some(degree) = degree_of(n, column).filter(|degree| *degree <= bound) {
+            echelon.insert::<F>(leading_list(n, column, degree));
         }
     }
-    !echelon.spans::<F>(leading_list(n, offered, 0, first))
+    !echelon.spans::<F>(leading_list(n, first, bound))
 }
 
-// The verdict on columns offered for a row that is not all zero.
-pub fn judge<F: Field>(row: &Row, bounds: &Bounds, offered: &[F]) -> Verdict {
-    if !product_is(row, offered, 0, &bounds.divisor) {
-        return Verdict::refused(7, 0);
+// The first question about columns offered for a row that is not all zero that is answered no.
+pub fn judge<F: Field>(row: &Row, bounds: &Bounds, offered: &[F]) -> Result<(), Fault> {
+    if product_with(row, column(offered, 0)) != bounds.divisor {
+        return Err(Fault::new(7, 0));
     }
-    if let Some(j) = lowest_bad(row, offered) {
-        return Verdict::refused(8, j);
+    if let Some(j) = (1..row.n).find(|j| product_with(row, column(offered, *j)) != [0; LENGTH]) {
+        return Err(Fault::new(8, j));
     }
     if !degrees_are_right(row.n, offered, bounds.degree) {
-        return Verdict::refused(9, 0);
+        return Err(Fault::new(9, 0));
     }
     if !first_is_outside(row.n, offered) {
-        return Verdict::refused(10, 0);
+        return Err(Fault::new(10, 0));
     }
-    Verdict::refused(0, 0)
+    Ok(())
 }

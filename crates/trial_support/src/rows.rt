@@ -1,16 +1,18 @@
 // Rows of generators: of many shapes, drawn at random.
-use crate::codes::{member_of, sum_product};
+ghost use Rattle.std.specs.Prelude.{◌≤◌};
+
+use crate::codes::{add_product, top_of};
 use crate::draws::Draws;
+use crate::sizes::{GENERATORS, POWERS};
 use fields::field::Field;
 
-// The coefficients of s^0 to s^16.
-pub const POWERS: usize = 17;
-
-// A row of n polynomials by codes, power k of polynomial i at 17 i + k.
+// A row of n polynomials, each by the codes of its coefficients; those from n on are zero.
 #[derive(Clone, Copy)]
 pub struct Row {
     pub n: usize,
-    pub table: [u16; 136],
+    pub polynomials: [[u16; POWERS]; GENERATORS],
+    ghost some: { 1 ≤ n },
+    ghost few: { n ≤ 8 },
 }
 
 #[derive(Clone, Copy, PartialEq, Eq)]
@@ -32,104 +34,66 @@ pub enum Shape {
 }
 
 impl Row {
+    // The row of n zeros, with n from 1 to 8.
     pub fn zeros(n: usize) -> Row {
-        Row { n, table: [0; 136] }
-    }
-
-    // The coefficient of s^k in polynomial i.
-    pub fn coefficient(&self, i: usize, k: usize) -> u16 {
-        let place = i.saturating_mul(POWERS).saturating_add(k);
-        if k < POWERS && place < 136 {
-            self.table[place]
-        } else {
-            0
+        Row {
+            n: n.clamp(1, GENERATORS),
+            polynomials: [[0; POWERS]; GENERATORS],
         }
     }
 
-    pub fn put(&mut self, i: usize, k: usize, x: u16) {
-        let place = i.saturating_mul(POWERS).saturating_add(k);
-        if k < POWERS && place < 136 {
-            self.table[place] = x;
-        }
+    // The n polynomials.
+    pub fn polynomials(&self) -> &[[u16; POWERS]] {
+        &self.polynomials[..self.n]
     }
 
-    // Whether polynomial i is zero.
-    pub fn is_zero(&self, i: usize) -> bool {
-        let mut zero = true;
-        for k in 0..POWERS {
-            if self.coefficient(i, k) != 0 {
-                zero = false;
+    pub fn put(&mut self, i: usize, power: usize, code: u16) {
+        if let Some(polynomial) = self.polynomials.get_mut(i) {
+            if let Some(coefficient) = polynomial.get_mut(power) {
+                *coefficient = code;
             }
         }
-        zero
     }
 
-    // How many of the n polynomials are not zero.
+    // How many of the polynomials are not zero.
     pub fn nonzero(&self) -> usize {
-        let mut count = 0usize;
-        for i in 0..self.n {
-            if !self.is_zero(i) {
-                count = count.saturating_add(1);
-            }
-        }
-        count
+        self.polynomials()
+            .iter()
+            .filter(|polynomial| top_of(*polynomial).is_some())
+            .count()
     }
 
-    // The highest power with a coefficient that is not zero, 0 if there is none.
-    pub fn degree(&self) -> usize {
-        let mut highest = 0;
-        for place in 0..136usize {
-            if place / POWERS < self.n && self.table[place] != 0 {
-                highest = (place % POWERS).max(highest);
-            }
-        }
-        highest
+    // Whether polynomial i is the only one that is not zero.
+    pub fn is_alone(&self, i: usize) -> bool {
+        let mut polynomials = self.polynomials().iter().enumerate();
+        polynomials.all(|(j, polynomial)| top_of(polynomial).is_some() == (i == j))
     }
 
-    // Adds x s^k times a polynomial of 17 coefficients to polynomial i.
-    fn add_shifted<F: Field>(&mut self, i: usize, k: usize, x: F, factor: &[u16; 17]) {
-        for e in 0..POWERS {
-            let power = k.saturating_add(e);
-            let sum = sum_product(self.coefficient(i, power), x, factor[e]);
-            self.put(i, power, sum);
-        }
-    }
-
-    // Adds the product of two polynomials to polynomial i.
-    fn add_product<F: Field>(&mut self, i: usize, left: &[u16; 17], right: &[u16; 17]) {
-        for k in 0..POWERS {
-            self.add_shifted(i, k, member_of::<F>(left[k]), right);
-        }
+    // The highest power with a coefficient that is not zero, absent if there is none.
+    pub fn degree(&self) -> Option<usize> {
+        self.polynomials()
+            .iter()
+            .filter_map(|polynomial| top_of(polynomial))
+            .max()
     }
 }
 
-// A polynomial of at most that degree.
-fn draw_polynomial<F: Field>(draws: &mut Draws, degree: usize) -> [u16; 17] {
-    let mut drawn = [0; 17];
-    for k in 0..POWERS {
-        if k <= degree {
-            drawn[k] = draws.code::<F>();
-        }
-    }
-    drawn
-}
-
-// A polynomial of at most that degree with few terms, all of them 1.
-fn draw_sparse(draws: &mut Draws, degree: usize) -> [u16; 17] {
-    let mut drawn = [0; 17];
-    for k in 0..POWERS {
-        if k <= degree && draws.below(4) == 0 {
-            drawn[k] = 1;
-        }
+// A polynomial of at most that degree, each coefficient drawn.
+fn draw_polynomial<C: FnMut() -> u16>(degree: usize, mut code: C) -> [u16; POWERS]
+    requires { C.IsAlwaysCallable code }
+{
+    let mut drawn = [0; POWERS];
+    for x in drawn.iter_mut().take(degree.saturating_add(1)) {
+        *x = code();
     }
     drawn
 }
 
 // A monic polynomial of that degree.
-fn draw_monic<F: Field>(draws: &mut Draws, degree: usize) -> [u16; 17] {
-    let mut drawn = draw_polynomial::<F>(draws, degree);
-    if degree < POWERS {
-        drawn[degree] = 1;
+fn draw_monic<F: Field>(draws: &mut Draws, degree: usize) -> [u16; POWERS] {
+    let mut drawn = draw_polynomial(degree, || draws.code::<F>());
+    if let Some(leading) = drawn.get_mut(degree) {
+        *leading = 1;
     }
     drawn
 }
@@ -158,34 +122,36 @@ fn draw_plan(draws: &mut Draws, shape: Shape) -> Plan {
         Shape::Flat => Plan {
             n,
             degree: 0,
-            shared: draws.place(17),
+            shared: draws.place(POWERS),
         },
         Shape::Largest | Shape::Scattered => Plan {
-            n: 8,
-            degree: 16,
+            n: GENERATORS,
+            degree: POWERS - 1,
             shared: 0,
         },
     }
 }
 
 // One polynomial of a row; one in five is zero.
-fn draw_factor<F: Field>(draws: &mut Draws, shape: Shape, plan: Plan) -> [u16; 17] {
+fn draw_factor<F: Field>(draws: &mut Draws, shape: Shape, plan: Plan) -> [u16; POWERS] {
     if shape == Shape::Empty || draws.below(5) == 0 {
-        return [0; 17];
+        return [0; POWERS];
     }
     match shape {
-        Shape::Sparse | Shape::Scattered => draw_sparse(draws, plan.degree),
-        _ => draw_polynomial::<F>(draws, plan.degree),
+        Shape::Sparse | Shape::Scattered => {
+            draw_polynomial(plan.degree, || u16::from(draws.below(4) == 0))
+        }
+        _ => draw_polynomial(plan.degree, || draws.code::<F>()),
     }
 }
 
 pub fn draw_row<F: Field>(draws: &mut Draws, shape: Shape) -> Row {
     let plan = draw_plan(draws, shape);
-    let factor = draw_monic::<F>(draws, plan.shared);
+    let shared = draw_monic::<F>(draws, plan.shared);
     let mut row = Row::zeros(plan.n);
-    for i in 0..plan.n {
-        let other = draw_factor::<F>(draws, shape, plan);
-        row.add_product::<F>(i, &factor, &other);
+    for polynomial in row.polynomials.iter_mut().take(plan.n) {
+        let factor = draw_factor::<F>(draws, shape, plan);
+        add_product::<F>(polynomial, &shared, &factor);
     }
     row
 }

@@ -1,85 +1,107 @@
-// Vectors of polynomials as flat lists of places.
-use crate::codes::{inverse, member_of, product, sum_product};
+// Vectors of polynomials, each beside its product with the row, as flat lists of places.
+use crate::codes::{add_shifted, inverse, member_of, scale, top_of};
+use crate::sizes::{GENERATORS, POWERS};
 use fields::field::Field;
 
-// 34 powers of at most 9 components.
-pub const PLACES: usize = 306;
+// The components: those of the vector, and last the product.
+const WIDTH: usize = GENERATORS + 1;
 
-// Power k of component i among w components stands at w k + i; all places from top on are zero, and the one before is not.
+// The places: 17 powers of the vector, and above them 17 of the product.
+pub const PLACES: usize = 2 * POWERS * WIDTH;
+
+// Power k of component i stands at 9 k + i. The product is raised by 17 powers, so that it leads while it is not zero.
 #[derive(Clone, Copy)]
 pub struct Vector {
-    cells: [u16; 306],
-    top: usize,
+    cells: [u16; PLACES],
+    // The highest place that is not zero.
+    leading: Option<usize>,
+}
+
+// The component of a place.
+pub fn component_of(place: usize) -> usize {
+    place % WIDTH
+}
+
+// Copies the powers of a component, from those of a vector that are handed in.
+fn copy_component(part: &mut [u16], powers: &[u16], i: usize) {
+    for (code, power) in part.iter_mut().zip(powers.chunks(WIDTH)) {
+        *code = power.get(i).map_or(0, |x| *x);
+    }
 }
 
 impl Vector {
     pub fn zero() -> Vector {
         Vector {
-            cells: [0; 306],
-            top: 0,
+            cells: [0; PLACES],
+            leading: None,
         }
     }
 
-    // One more than the leading place, 0 for the zero vector.
-    pub fn top(&self) -> usize {
-        self.top
+    // Unit vector i beside its product.
+    pub fn unit(i: usize, product: &[u16]) -> Vector {
+        let mut unit = Vector::zero();
+        if let Some(cell) = unit.cells.get_mut(i) {
+            *cell = 1;
+        }
+        for (power, code) in unit.cells.chunks_mut(WIDTH).skip(POWERS).zip(product) {
+            if let Some(cell) = power.last_mut() {
+                *cell = *code;
+            }
+        }
+        unit.settle();
+        unit
+    }
+
+    // Finds the leading place anew.
+    fn settle(&mut self) {
+        self.leading = top_of(&self.cells);
     }
 
     // The leading place, absent for the zero vector.
     pub fn leading(&self) -> Option<usize> {
-        self.top.checked_sub(1)
+        self.leading
     }
 
     pub fn at(&self, place: usize) -> u16 {
-        if place < PLACES { self.cells[place] } else { 0 }
+        self.cells.get(place).map_or(0, |code| *code)
     }
 
-    pub fn put(&mut self, place: usize, x: u16) {
-        if place < PLACES {
-            self.cells[place] = x;
-        }
-        self.settle();
-    }
-
-    // Finds the top anew.
-    fn settle(&mut self) {
-        let mut top = 0;
-        for k in 0..PLACES {
-            if self.cells[k] != 0 {
-                top = k.saturating_add(1);
-            }
-        }
-        self.top = top;
-    }
-
-    // Adds x times another vector whose places are moved up by so many.
-    fn add_moved<F: Field>(&mut self, x: F, by: usize, other: &Vector) {
-        for k in 0..PLACES {
-            let place = k.saturating_add(by);
-            if k < other.top && place < PLACES {
-                self.cells[place] = sum_product(self.cells[place], x, other.cells[k]);
-            }
-        }
-        self.settle();
+    // Whether the product is not zero.
+    pub fn has_product(&self) -> bool {
+        self.leading
+            .is_some_and(|leading| component_of(leading) == GENERATORS)
     }
 
     // Makes the coefficient at a place zero by a multiple of another vector, whose leading place comes to lie there.
     pub fn cancel<F: Field>(&mut self, place: usize, other: &Vector) {
-        let Some(leading) = other.leading() else {
+        let Some(leading) = other.leading else {
             return;
         };
         let Some(by) = place.checked_sub(leading) else {
             return;
         };
         let x = member_of::<F>(self.at(place)).multiply(inverse(other.at(leading)));
-        self.add_moved(x.negate(), by, other);
+        add_shifted(&mut self.cells, by, x.negate(), &other.cells);
+        self.settle();
     }
 
-    // Makes the coefficient at a place 1, where it is not zero.
-    pub fn make_monic<F: Field>(&mut self, place: usize) {
-        let x = inverse::<F>(self.at(place));
-        for k in 0..PLACES {
-            self.cells[k] = product(self.cells[k], x);
+    // Makes the leading coefficient 1, where there is one.
+    pub fn make_monic<F: Field>(&mut self) {
+        if let Some(leading) = self.leading {
+            let x = inverse::<F>(self.at(leading));
+            scale(&mut self.cells, x);
         }
+    }
+
+    // Writes the components as a column.
+    pub fn write_column(&self, column: &mut [u16]) {
+        for (i, part) in column.chunks_mut(POWERS).enumerate() {
+            copy_component(part, &self.cells, i);
+        }
+    }
+
+    // Writes the product, less the powers that raise it.
+    pub fn write_product(&self, part: &mut [u16]) {
+        copy_component(part, &self.cells[WIDTH * POWERS..], GENERATORS);
     }
 }

@@ -4,40 +4,38 @@ use crate::tally::Tally;
 use cards::read::read_card;
 use cards::write::write_card;
 use design::draft::Draft;
-use fields::fault::Refusal;
 use fields::field::Field;
-use trial_support::cards::{Card, Meaning, card_of, meaning_of};
+use std::alloc::{AllocError, Global};
+use trial_support::cards::{card_of, meaning_of};
 use trial_support::draws::Draws;
+use trial_support::faults::Fault;
 use trial_support::rows::Row;
+use trial_support::sizes::{CARD, ROW};
+
+// The longest card of which each byte is damaged to every value.
+const SHORT: usize = 40;
 
 // Whether a table holds a row's polynomials, and zero from n on.
 fn holds_row<F: Field>(table: &[F], row: &Row) -> bool {
-    holds(table, &row.table)
+    holds(table, row.polynomials.as_flattened())
 }
 
-// Whether the card that is written for a draft is the row's, byte for byte, with zeros after it.
-pub fn writing_agrees<F: Field>(draft: &Draft, generators: &[F], row: &Row) -> bool {
-    let card = card_of::<F>(row);
-    let mut buffer = [7u8; 555];
-    match write_card(draft, generators, &mut buffer) {
-        Ok(length) => length == card.length && buffer == card.bytes,
-        Err(_) => false,
-    }
-}
-
-// The bytes of a card up to a length.
-fn upto(bytes: &[u8; 555], length: usize) -> &[u8] {
-    bytes.get(0..length).unwrap_or(&[])
+// Whether the card that is written for a draft is a row's, byte for byte, with zeros after it.
+pub fn writing_agrees<F: Field>(draft: &Draft, generators: &[F], card: &[u8]) -> bool {
+    let mut buffer = [7u8; CARD];
+    write_card(draft, generators, &mut buffer).is_ok_and(|length| length == card.len())
+        && buffer.get(..card.len()) == Some(card)
+        && buffer.iter().skip(card.len()).all(|byte| *byte == 0)
 }
 
 // Whether a draft that was read, written and read again is the same.
 fn rewriting_agrees<F: Field>(draft: &Draft, table: &mut [F], row: &Row) -> bool {
-    let mut buffer = [7u8; 555];
+    let mut buffer = [7u8; CARD];
     let Ok(length) = write_card(draft, table, &mut buffer) else {
         return false;
     };
     mark(table);
-    match read_card(upto(&buffer, length), table) {
+    match read_card(buffer.get(..length).unwrap_or(&[]), table) {
         Ok(again) => again.count() == row.n && holds_row(table, row),
         Err(_) => false,
     }
@@ -53,13 +51,11 @@ fn design_agrees<F: Field>(bytes: &[u8], table: &mut [F], row: &Row) -> bool {
     }
 }
 
-// Whether reading is refused with a number and a place, and leaves the marked table as it was.
-fn fault_agrees<F: Field>(bytes: &[u8], table: &mut [F], number: u8, place: usize) -> bool {
+// Whether reading is refused by a fault, and leaves the marked table as it was.
+fn fault_agrees<F: Field>(bytes: &[u8], table: &mut [F], fault: Fault) -> bool {
     match read_card(bytes, table) {
         Ok(_) => false,
-        Err(fault) => {
-            fault.number() == number && fault.place() == place && holds(table, &[1; 136])
-        }
+        Err(refusal) => Fault::of(&refusal) == fault && holds(table, &[1; ROW]),
     }
 }
 
@@ -67,41 +63,55 @@ fn fault_agrees<F: Field>(bytes: &[u8], table: &mut [F], number: u8, place: usiz
 pub fn reading_agrees<F: Field>(bytes: &[u8], table: &mut [F]) -> bool {
     mark(table);
     match meaning_of::<F>(bytes) {
-        Meaning::Design(row) => design_agrees(bytes, table, &row),
-        Meaning::Fault { number, place } => fault_agrees(bytes, table, number, place),
+        Ok(row) => design_agrees(bytes, table, &row),
+        Err(fault) => fault_agrees(bytes, table, fault),
     }
 }
 
-// Damages the byte at a place: to every other value in a short card, to a few in a long one.
-fn damage_byte<F: Field>(
-    draws: &mut Draws,
-    card: &Card,
+// Damages the byte at a place so many times, each time to the next value.
+fn damage_byte<F: Field, V: FnMut(u32) -> u32>(
+    card: &mut [u8],
     table: &mut [F],
     place: usize,
     values: u32,
-) -> Tally {
-    let mut tally = Tally::none();
-    let mut damaged = card.bytes;
+    mut next: V,
+) -> Tally
+    requires { V.IsAlwaysCallable next }
+{
+    let mut tally = Tally::default();
+    let right = card.get(place).copied();
     for step in 0..values {
-        let value = if values < 256 { draws.below(256) } else { step };
-        if place < 555 {
-            damaged[place] = u8::try_from(value).unwrap_or(0);
+        if let Some(byte) = card.get_mut(place) {
+            *byte = u8::try_from(next(step)).unwrap_or(0);
         }
-        tally.note(reading_agrees(upto(&damaged, card.length), table));
+        tally.note(reading_agrees(card, table));
+    }
+    if let (Some(byte), Some(right)) = (card.get_mut(place), right) {
+        *byte = right;
     }
     tally
 }
 
 // Reads a row's card as it is, cut at every length, with a byte too many, and with each byte damaged.
-pub fn try_card<F: Field>(draws: &mut Draws, row: &Row, table: &mut [F]) -> Tally {
-    let card = card_of::<F>(row);
-    let mut tally = Tally::none();
-    let values = if card.length <= 40 { 256 } else { 6 };
-    for place in 0..card.length {
-        tally.note(reading_agrees(upto(&card.bytes, place), table));
-        tally.add(damage_byte(draws, &card, table, place, values));
+pub fn try_card<F: Field>(
+    heap: Global,
+    draws: &mut Draws,
+    row: &Row,
+    table: &mut [F],
+) -> Result<Tally, AllocError> {
+    let mut card = card_of::<F>(heap, row)?;
+    let mut tally = Tally::default();
+    let length = card.len();
+    for place in 0..length {
+        tally.note(reading_agrees(card.as_slice().get(..place).unwrap_or(&[]), table));
+        tally.add(if length <= SHORT {
+            damage_byte(card.as_mut_slice(), table, place, 256, |step| step)
+        } else {
+            damage_byte(card.as_mut_slice(), table, place, 6, |_| draws.below(256))
+        });
     }
-    tally.note(reading_agrees(upto(&card.bytes, card.length), table));
-    tally.note(reading_agrees(upto(&card.bytes, card.length.saturating_add(1)), table));
-    tally
+    tally.note(reading_agrees(card.as_slice(), table));
+    card.push(0)?;
+    tally.note(reading_agrees(card.as_slice(), table));
+    Ok(tally)
 }

@@ -10,29 +10,25 @@ mod station;
 mod tally;
 mod worked;
 
-use blocks::{Sendings, try_message};
-use design::draft::Draft;
-use design::framed::Framed;
+use blocks::Sending;
 use fields::field::Field;
-use framed::{
-    columns_agree, components_agree, frame_row, numbers_agree, products_agree, refusal_agrees,
-    reopening_agrees,
-};
+use framed::{frame_agrees, refusal_agrees, reopening_agrees};
 use keeping::{try_card, writing_agrees};
 use limits::try_limits;
 use nibbles::Nibble;
-use offers::trial_offers;
-use station::{Tables, enter, spoil_rest};
+use offers::try_offers;
+use station::Tables;
 use std::alloc::{AllocError, Global};
 use tally::Tally;
 use tones::Tone;
 use towers::{Byte, TonePair};
+use trial_support::cards::card_of;
 use trial_support::draws::Draws;
 use trial_support::rows::{Row, Shape, draw_row};
 use worked::try_worked;
 
 // What is counted over one field.
-#[derive(Clone, Copy)]
+#[derive(Clone, Copy, Default)]
 struct Counts {
     framed: Tally,
     empty: Tally,
@@ -45,125 +41,117 @@ struct Counts {
 }
 
 impl Counts {
-    fn none() -> Counts {
-        Counts {
-            framed: Tally::none(),
-            empty: Tally::none(),
-            messages: Tally::none(),
-            changes: Tally::none(),
-            granted: Tally::none(),
-            refused: Tally::none(),
-            written: Tally::none(),
-            read: Tally::none(),
-        }
-    }
-
-    fn total(&self) -> Tally {
-        let mut total = self.framed;
-        total.add(self.empty);
-        total.add(self.messages);
-        total.add(self.changes);
-        total.add(self.granted);
-        total.add(self.refused);
-        total.add(self.written);
-        total.add(self.read);
-        total
+    // What was tried, in words, with its tally.
+    fn lines(&self) -> [(&'static str, Tally); 8] {
+        [
+            (
+                "framed; frame, numbers and products by the second solver",
+                self.framed,
+            ),
+            ("all zero, refused", self.empty),
+            (
+                "messages encoded, found clean and brought home",
+                self.messages,
+            ),
+            (
+                "single changes of a block, told and within their reach",
+                self.changes,
+            ),
+            ("offered frames granted, as judged apart", self.granted),
+            ("offered frames refused, as judged apart", self.refused),
+            ("cards written, byte for byte", self.written),
+            ("cards read, whole, cut and damaged", self.read),
+        ]
     }
 }
 
-// Whether a frame is right by all routes.
-fn frame_agrees<F: Field>(row: &Row, framed: &Framed, frame: &[F]) -> bool {
-    columns_agree(row, frame)
-        && numbers_agree(row, framed, frame)
-        && products_agree(row, frame)
-        && components_agree(framed, frame)
-}
-
-// Frames a row that is not all zero, and sends a message where its divisor is 1.
-fn try_frame<F: Field + Clone + Drop>(
+// The trials over one field: what they draw from, the tables that the calls are lent, and what is counted.
+#[derive(Drop)]
+struct Trials<F: Field + Drop> {
     heap: Global,
-    draws: &mut Draws,
-    row: &Row,
-    tables: &mut Tables<F>,
-    counts: &mut Counts,
-) -> Result<(), AllocError> {
-    let Some(framed) = frame_row(row, tables) else {
-        counts.framed.note(false);
-        return Ok(());
-    };
-    let mut agree = frame_agrees(row, &framed, tables.frame.as_slice());
-    if framed.divisor_degree() == 0 {
-        let sendings = try_message(
+    draws: Draws,
+    tables: Tables<F>,
+    counts: Counts,
+}
+
+impl<F: Field + Clone + Drop> Trials<F> {
+    fn begin(heap: Global, seed: u64) -> Result<Trials<F>, AllocError> {
+        Ok(Trials {
             heap,
-            draws,
-            row,
-            &framed,
-            tables.generators.as_slice(),
-            tables.frame.as_slice(),
-        )?;
-        counts.messages.add(sendings.messages);
-        counts.changes.add(sendings.changes);
+            draws: Draws::from_seed(seed),
+            tables: Tables::full(heap)?,
+            counts: Counts::default(),
+        })
     }
-    agree = reopening_agrees(framed, tables.frame.as_mut_slice()) && agree;
-    counts.framed.note(agree);
-    Ok(())
-}
 
-// Offers frames for a row that is not all zero.
-fn try_offers<F: Field + Clone + Drop>(
-    heap: Global,
-    draws: &mut Draws,
-    row: &Row,
-    tables: &mut Tables<F>,
-    counts: &mut Counts,
-) -> Result<(), AllocError> {
-    let offers = trial_offers(heap, draws, row, tables)?;
-    counts.granted.add(offers.granted);
-    counts.refused.add(offers.refused);
-    Ok(())
-}
-
-// Writes the card of a row, and reads it whole and damaged.
-fn try_keeping<F: Field + Drop>(
-    draws: &mut Draws,
-    row: &Row,
-    tables: &mut Tables<F>,
-    counts: &mut Counts,
-) {
-    match enter(row, tables.generators.as_mut_slice()) {
-        Ok(draft) => {
-            spoil_rest(row.n, tables.generators.as_mut_slice());
-            let agrees = writing_agrees(&draft, tables.generators.as_slice(), row);
-            counts.written.note(agrees);
+    // Frames a row that is not all zero, and sends a message where its divisor is 1.
+    fn try_frame(&mut self, row: &Row) -> Result<(), AllocError> {
+        let Some(framed) = self.tables.frame(row) else {
+            self.counts.framed.note(false);
+            return Ok(());
+        };
+        let agrees = frame_agrees(row, &framed, self.tables.frame.as_slice());
+        if framed.divisor_degree() == 0 {
+            let mut sending = Sending::draw(
+                self.heap,
+                &mut self.draws,
+                row,
+                &framed,
+                &self.tables,
+            )?;
+            self.counts.messages.note(sending.agrees());
+            self.counts
+                .changes
+                .add(sending.change_symbols(&mut self.draws));
         }
-        Err(_) => counts.written.note(false),
+        let reopened = reopening_agrees(framed, self.tables.frame.as_mut_slice());
+        self.counts.framed.note(agrees && reopened);
+        Ok(())
     }
-    let read = try_card(draws, row, tables.generators.as_mut_slice());
-    counts.read.add(read);
-}
 
-// Draws rows of one shape and tries each.
-fn try_shape<F: Field + Clone + Drop>(
-    heap: Global,
-    draws: &mut Draws,
-    shape: Shape,
-    rows: u32,
-    tables: &mut Tables<F>,
-    counts: &mut Counts,
-) -> Result<(), AllocError> {
-    for number in 0..rows {
-        let row = draw_row::<F>(draws, shape);
-        if row.nonzero() == 0 {
-            counts.empty.note(refusal_agrees(&row, tables));
-        } else {
-            try_frame(heap, draws, &row, tables, counts)?;
-            try_offers(heap, draws, &row, tables, counts)?;
-        }
-        if number % 8 == 0 {
-            try_keeping(draws, &row, tables, counts);
-        }
+    // Offers frames for a row that is not all zero.
+    fn try_offers(&mut self, row: &Row) -> Result<(), AllocError> {
+        let offers = try_offers(self.heap, &mut self.draws, row, &mut self.tables)?;
+        self.counts.granted.add(offers.granted);
+        self.counts.refused.add(offers.refused);
+        Ok(())
     }
-    Ok(())
+
+    // Writes the card of a row, and reads it whole and damaged.
+    fn try_keeping(&mut self, row: &Row) -> Result<(), AllocError> {
+        let card = card_of::<F>(self.heap, row)?;
+        let written = match self.tables.enter(row) {
+            Ok(draft) => {
+                writing_agrees(&draft, self.tables.generators.as_slice(), card.as_slice())
+            }
+            Err(_) => false,
+        };
+        self.counts.written.note(written);
+        let table = self.tables.generators.as_mut_slice();
+        self.counts
+            .read
+            .add(try_card(self.heap, &mut self.draws, row, table)?);
+        Ok(())
+    }
+
+    // Draws rows of one shape and tries each, and the card of each eighth.
+    fn try_shape(&mut self, shape: Shape, rows: u32) -> Result<(), AllocError> {
+        for number in 0..rows {
+            let row = draw_row::<F>(&mut self.draws, shape);
+            if row.nonzero() == 0 {
+                self.counts
+                    .empty
+                    .note(refusal_agrees(&row, &mut self.tables));
+            } else {
+                self.try_frame(&row)?;
+                self.try_offers(&row)?;
+            }
+            if number % 8 == 0 {
+                self.try_keeping(&row)?;
+            }
+        }
+        Ok(())
+    }
 }
 
 // How many rows of each shape are drawn over each field.
@@ -178,18 +166,15 @@ const SHAPES: [(Shape, u32); 7] = [
 ];
 
 fn try_shapes<F: Field + Clone + Drop>(heap: Global, seed: u64) -> Result<Counts, AllocError> {
-    let mut draws = Draws::from_seed(seed);
-    let mut tables = Tables::<F>::full(heap)?;
-    let mut counts = Counts::none();
+    let mut trials = Trials::<F>::begin(heap, seed)?;
     for (shape, rows) in SHAPES {
-        try_shape(heap, &mut draws, shape, rows, &mut tables, &mut counts)?;
+        trials.try_shape(shape, rows)?;
     }
-    Ok(counts)
+    Ok(trials.counts)
 }
 
 fn print_tally(rt: &HostRuntime, what: &str, tally: Tally) -> anyhow::Result<()> {
-    let tried = tally.tried;
-    let differed = tally.differed;
+    let Tally { tried, differed } = tally;
     println!(rt; "  {tried} {what}: {differed} differed")?;
     Ok(())
 }
@@ -202,40 +187,17 @@ fn try_field<F: Field + Clone + Drop>(
 ) -> anyhow::Result<Tally> {
     let counts = try_shapes::<F>(rt.alloc(), seed)?;
     println!(rt; "Rows of 2 to 8 generators over {name}, drawn at random:")?;
-    print_tally(
-        rt,
-        "framed; frame, numbers and products by the second solver",
-        counts.framed,
-    )?;
-    print_tally(rt, "all zero, refused", counts.empty)?;
-    print_tally(
-        rt,
-        "messages encoded, found clean and brought home",
-        counts.messages,
-    )?;
-    print_tally(
-        rt,
-        "single changes of a block, told and within their reach",
-        counts.changes,
-    )?;
-    print_tally(
-        rt,
-        "offered frames granted, as judged apart",
-        counts.granted,
-    )?;
-    print_tally(
-        rt,
-        "offered frames refused, as judged apart",
-        counts.refused,
-    )?;
-    print_tally(rt, "cards written, byte for byte", counts.written)?;
-    print_tally(rt, "cards read, whole, cut and damaged", counts.read)?;
-    Ok(counts.total())
+    let mut total = Tally::default();
+    for (what, tally) in counts.lines() {
+        print_tally(rt, what, tally)?;
+        total.add(tally);
+    }
+    Ok(total)
 }
 
 fn try_all(rt: &HostRuntime) -> anyhow::Result<()> {
     let heap = rt.alloc();
-    let mut total = Tally::none();
+    let mut total = Tally::default();
     println!(rt; "Designs, a block and a card worked out by hand:")?;
     let worked = try_worked::<Byte>(heap)?;
     print_tally(rt, "answers", worked)?;
@@ -248,8 +210,7 @@ fn try_all(rt: &HostRuntime) -> anyhow::Result<()> {
     total.add(try_field::<Nibble>(rt, "nibbles", 2)?);
     total.add(try_field::<Byte>(rt, "bytes", 3)?);
     total.add(try_field::<TonePair>(rt, "tone pairs", 4)?);
-    let tried = total.tried;
-    let differed = total.differed;
+    let Tally { tried, differed } = total;
     println!(rt; "Tried in all: {tried}. Differed: {differed}")?;
     Ok(())
 }

@@ -1,10 +1,11 @@
 // The tables that the calls are lent, and designs entered into them through the calls.
 use design::draft::Draft;
 use design::fault::DesignFault;
+use design::framed::Framed;
 use fields::field::Field;
 use std::alloc::{AllocError, Global};
-use trial_support::blocks::code_at;
 use trial_support::rows::Row;
+use trial_support::sizes::{FRAME, POWERS, ROW, WORK};
 
 #[derive(Drop)]
 pub struct Tables<F: Field + Drop> {
@@ -17,70 +18,72 @@ impl<F: Field + Clone + Drop> Tables<F> {
     // Tables that are full of ones.
     pub fn full(heap: Global) -> Result<Tables<F>, AllocError> {
         Ok(Tables {
-            generators: vec![in heap; F::one(); 136]?,
-            frame: vec![in heap; F::one(); 1105]?,
-            work: vec![in heap; F::one(); 4521]?,
+            generators: vec![in heap; F::one(); ROW]?,
+            frame: vec![in heap; F::one(); FRAME]?,
+            work: vec![in heap; F::one(); WORK]?,
         })
+    }
+}
+
+impl<F: Field + Drop> Tables<F> {
+    // Enters a row, with ones in the polynomials past it.
+    pub fn enter(&mut self, row: &Row) -> Result<Draft, DesignFault> {
+        let draft = enter(row, self.generators.as_mut_slice())?;
+        for x in self.generators.iter_mut().skip(row.n * POWERS) {
+            *x = F::one();
+        }
+        Ok(draft)
+    }
+
+    // Enters a row and frames it; absent where a call refuses.
+    pub fn frame(&mut self, row: &Row) -> Option<Framed> {
+        let draft = self.enter(row).ok()?;
+        let framed = draft.frame(
+            self.generators.as_slice(),
+            self.frame.as_mut_slice(),
+            self.work.as_mut_slice(),
+        );
+        framed.ok()
     }
 }
 
 // Fills a table with ones.
 pub fn mark<F: Field>(table: &mut [F]) {
-    for x in table.iter_mut() {
+    for x in table {
         *x = F::one();
     }
+}
+
+// Enters polynomial i of a row by its codes.
+fn put_polynomial<F: Field>(
+    draft: &Draft,
+    generators: &mut [F],
+    i: usize,
+    polynomial: &[u16],
+) -> Result<(), DesignFault> {
+    for (power, code) in polynomial.iter().enumerate() {
+        if *code != 0 {
+            draft.put(generators, i, power, u32::from(*code))?;
+        }
+    }
+    Ok(())
 }
 
 // Enters a row by its codes.
 pub fn enter<F: Field>(row: &Row, generators: &mut [F]) -> Result<Draft, DesignFault> {
     let draft = Draft::begin(row.n, generators)?;
-    for place in 0..136usize {
-        let code = row.table[place];
-        if code != 0 {
-            draft.put(generators, place / 17, place % 17, u32::from(code))?;
-        }
+    for (i, polynomial) in row.polynomials().iter().enumerate() {
+        put_polynomial(&draft, generators, i, polynomial)?;
     }
     Ok(draft)
 }
 
-// Fills the polynomials from n on, which no call reads, with ones.
-pub fn spoil_rest<F: Field>(n: usize, generators: &mut [F]) {
-    for place in 0..generators.len() {
-        if n <= place / 17 {
-            generators[place] = F::one();
-        }
-    }
-}
-
 // Whether the codes of a table are those of a list, place by place.
 pub fn holds<F: Field>(table: &[F], codes: &[u16]) -> bool {
-    let mut all = table.len() == codes.len();
-    for (x, code) in table.iter().zip(codes.iter()) {
-        if x.code() != *code {
-            all = false;
-        }
-    }
-    all
+    table.len() == codes.len() && table.iter().zip(codes).all(|(x, code)| x.code() == *code)
 }
 
 // Whether every place of a table has one code.
 pub fn all_are<F: Field>(table: &[F], code: u16) -> bool {
-    let mut all = true;
-    for x in table {
-        if x.code() != code {
-            all = false;
-        }
-    }
-    all
-}
-
-// The degree of column j, read off the table.
-pub fn column_degree<F: Field>(frame: &[F], j: usize) -> usize {
-    let mut degree = 0;
-    for place in 0..136usize {
-        if code_at(frame, j.saturating_mul(136).saturating_add(place)) != 0 {
-            degree = (place % 17).max(degree);
-        }
-    }
-    degree
+    table.iter().all(|x| x.code() == code)
 }

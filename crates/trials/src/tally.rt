@@ -1,24 +1,15 @@
 // Counts of what was tried and of what differed from what was expected.
-#[derive(Clone, Copy)]
+#[derive(Clone, Copy, Default)]
 pub struct Tally {
     pub tried: u64,
     pub differed: u64,
 }
 
 impl Tally {
-    pub fn none() -> Tally {
-        Tally {
-            tried: 0,
-            differed: 0,
-        }
-    }
-
     // Counts one more trial.
     pub fn note(&mut self, agreed: bool) {
         self.tried = self.tried.saturating_add(1);
-        if !agreed {
-            self.differed = self.differed.saturating_add(1);
-        }
+        self.differed = self.differed.saturating_add(u64::from(!agreed));
     }
 
     // Counts the trials of another tally.

@@ -1,5 +1,5 @@
 // Designs whose frames, blocks and cards were worked out by hand.
-use crate::framed::{columns_agree, components_agree, frame_row, numbers_agree, products_agree};
+use crate::framed::frame_agrees;
 use crate::keeping::reading_agrees;
 use crate::station::{Tables, enter, holds};
 use crate::tally::Tally;
@@ -9,6 +9,7 @@ use link::calls::{check, encode, invert};
 use std::alloc::{AllocError, Global};
 use tones::Tone;
 use trial_support::rows::Row;
+use trial_support::sizes::{CARD, FRAME, POWERS, ROW};
 
 // A nonzero coefficient of a row: its polynomial, power and code.
 #[derive(Clone, Copy)]
@@ -16,7 +17,7 @@ pub struct Term(pub usize, pub usize, pub u16);
 
 // A nonzero coefficient of a frame: its column, component, power and code. The divisor stands where column 8 would.
 #[derive(Clone, Copy)]
-pub struct Entry(pub usize, pub usize, pub usize, pub u16);
+pub struct Entry(pub u8, pub u8, pub u8, pub u16);
 
 pub fn row_of(n: usize, terms: &[Term]) -> Row {
     let mut row = Row::zeros(n);
@@ -27,15 +28,12 @@ pub fn row_of(n: usize, terms: &[Term]) -> Row {
 }
 
 // The frame table with these entries and zero elsewhere.
-fn frame_of(entries: &[Entry]) -> [u16; 1105] {
-    let mut frame = [0; 1105];
+fn frame_of(entries: &[Entry]) -> [u16; FRAME] {
+    let mut frame = [0; FRAME];
     for Entry(j, i, power, code) in entries {
-        let place = j
-            .saturating_mul(136)
-            .saturating_add(i.saturating_mul(17))
-            .saturating_add(*power);
-        if place < 1105 {
-            frame[place] = *code;
+        let place = ROW * usize::from(*j) + POWERS * usize::from(*i) + usize::from(*power);
+        if let Some(element) = frame.get_mut(place) {
+            *element = *code;
         }
     }
     frame
@@ -48,21 +46,18 @@ fn frames_to<F: Field + Drop>(
     entries: &[Entry],
     degrees: u64,
 ) -> bool {
-    let Some(framed) = frame_row(row, tables) else {
+    let Some(framed) = tables.frame(row) else {
         return false;
     };
     let frame = tables.frame.as_slice();
     holds(frame, &frame_of(entries))
         && framed.columns() == degrees
-        && columns_agree(row, frame)
-        && numbers_agree(row, &framed, frame)
-        && products_agree(row, frame)
-        && components_agree(&framed, frame)
+        && frame_agrees(row, &framed, frame)
 }
 
 // Designs of two generators over tones.
 pub fn try_twos(tables: &mut Tables<Tone>) -> Tally {
-    let mut tally = Tally::none();
+    let mut tally = Tally::default();
     // (1, s): (1, 0), (s, 30)
     let row = row_of(2, &[Term(0, 0, 1), Term(1, 1, 1)]);
     let entries = [
@@ -100,7 +95,7 @@ pub fn square_and_line() -> Row {
 
 // Designs of two generators and more, over tones.
 pub fn try_more(tables: &mut Tables<Tone>) -> Tally {
-    let mut tally = Tally::none();
+    let mut tally = Tally::default();
     // (s^2, s + 1): (1, 1 + 30s), (30 + 30s, s^2)
     let entries = [
         Entry(0, 0, 0, 1),
@@ -138,7 +133,7 @@ pub fn try_more(tables: &mut Tables<Tone>) -> Tally {
 
 // (16, s), in a field in which 255 is the inverse of 16 and each member is its own negative: (255, 0), (s, 16)
 pub fn try_bytes<F: Field + Drop>(tables: &mut Tables<F>) -> Tally {
-    let mut tally = Tally::none();
+    let mut tally = Tally::default();
     let row = row_of(2, &[Term(0, 0, 16), Term(1, 1, 1)]);
     let entries = [
         Entry(0, 0, 0, 255),
@@ -152,8 +147,8 @@ pub fn try_bytes<F: Field + Drop>(tables: &mut Tables<F>) -> Tally {
 
 // The message 3 1 under (s^2, s + 1) has the block 0 3 0 4 3 1 1 0, which is clean and brings it home.
 pub fn try_block(tables: &mut Tables<Tone>) -> Tally {
-    let mut tally = Tally::none();
-    let Some(framed) = frame_row(&square_and_line(), tables) else {
+    let mut tally = Tally::default();
+    let Some(framed) = tables.frame(&square_and_line()) else {
         tally.note(false);
         return tally;
     };
@@ -175,16 +170,16 @@ pub fn try_block(tables: &mut Tables<Tone>) -> Tally {
 
 // The card of (s^2, s + 1), byte for byte, and what comes of it when its bytes are damaged.
 pub fn try_card_bytes(tables: &mut Tables<Tone>) -> Tally {
-    let mut tally = Tally::none();
+    let mut tally = Tally::default();
     let bytes = [1, 2, 3, 1, 2, 2, 1, 0, 0, 0, 1, 0, 3, 1, 1, 0, 0];
-    let mut buffer = [9u8; 555];
+    let mut buffer = [9u8; CARD];
     let generators = tables.generators.as_mut_slice();
     if let Ok(draft) = enter(&square_and_line(), generators) {
         let written = write_card(&draft, generators, &mut buffer);
         tally.note(matches!(written, Ok(17)));
     }
-    tally.note(buffer.get(0..17) == Some(&bytes));
-    tally.note(buffer.get(17..555) == Some(&[0u8; 538]));
+    tally.note(buffer.get(..17) == Some(&bytes));
+    tally.note(buffer.iter().skip(17).all(|byte| *byte == 0));
     tally.note(reading_agrees(&bytes, generators));
     tally
 }

@@ -1,0 +1,20 @@
+// What is refused, as all routes say it.
+use fields::fault::Refusal;
+
+// The number of the question that is answered no, and where.
+#[derive(Clone, Copy, PartialEq, Eq)]
+pub struct Fault {
+    pub number: u8,
+    pub place: usize,
+}
+
+impl Fault {
+    pub fn new(number: u8, place: usize) -> Fault {
+        Fault { number, place }
+    }
+
+    // What a call's refusal says.
+    pub fn of<E: Refusal>(refusal: &E) -> Fault {
+        Fault::new(refusal.number(), refusal.place())
+    }
+}
