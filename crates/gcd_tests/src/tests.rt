@@ -51,7 +51,7 @@ fn rows<F: Field + Clone>(rt: &(impl Abort + AllocGlobal), quadratics: bool) -> 
         trials(rt, &row, quadratics && e < 4);
     }
     row.n = 8;
-    row.generators.fill(F::zero());
+    tables::clear(&mut row.generators);
     assert!(rt; row.divide().is_none());
     assert_eq!(rt; top(row.divisor()), None);
     assert!(rt; row.rest_is_zero(0));
