@@ -14,8 +14,7 @@ pub fn carryless(a: u64, b: u64) -> u64 {
 // The remainder by x^4 + x + 1 of a polynomial of degree below 16.
 pub fn remainder(polynomial: u64) -> u64 {
     let mut rest = polynomial;
-    for step in 0..12u32 {
-        let above = 11 - step;
+    for above in (0..12u32).rev() {
         if rest >> (above + 4) & 1 == 1 {
             rest ^= 0b10011 << above;
         }
@@ -23,15 +22,28 @@ pub fn remainder(polynomial: u64) -> u64 {
     rest
 }
 
+// The code of a product of nibbles.
+pub fn nibble_product(a: u32, b: u32) -> u64 {
+    remainder(carryless(u64::from(a), u64::from(b)))
+}
+
 // A byte as a polynomial in x and z: the coefficient of x^i·z^j at bit i + 16·j.
-fn spread(code: u64) -> u64 {
-    code & 15 | (code >> 4) << 16
+fn spread(code: u32) -> u64 {
+    u64::from(code & 15 | (code >> 4) << 16)
 }
 
 // The code of a product of bytes: z^2 goes over into z + x^3, then each half is reduced.
-pub fn byte_product(a: u64, b: u64) -> u64 {
+pub fn byte_product(a: u32, b: u32) -> u64 {
     let product = carryless(spread(a), spread(b));
     let square = product >> 32;
     let rest = product & 0xffff_ffff ^ square << 16 ^ square << 3;
     remainder(rest & 0xffff) | remainder(rest >> 16) << 4
+}
+
+// The code of a product of tone pairs, which multiply as complex numbers with residues modulo 31.
+pub fn tone_pair_product(a: u32, b: u32) -> u64 {
+    let (a, b) = (u64::from(a), u64::from(b));
+    let real = (a % 31 * (b % 31) + (31 - a / 31 % 31) * (b / 31)) % 31;
+    let imaginary = (a % 31 * (b / 31) + a / 31 * (b % 31)) % 31;
+    real + 31 * imaginary
 }

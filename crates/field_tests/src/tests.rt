@@ -1,4 +1,4 @@
-use crate::bits::{byte_product, carryless, remainder};
+use crate::bits::{byte_product, nibble_product, tone_pair_product};
 use fields::field::Field;
 use nibbles::Nibble;
 use std::process::Abort;
@@ -6,26 +6,35 @@ use std::test::Fail;
 use tones::Tone;
 use towers::{Byte, TonePair, product_of_codes};
 
-#[test]
-fn nibble_products(rt: HostRuntime) -> Result<(), Fail> {
-    for a in 0..16u32 {
-        for b in 0..16u32 {
-            let expected = remainder(carryless(u64::from(a), u64::from(b)));
-            assert_eq!(rt; u64::from(product_of_codes::<Nibble>(a, b)?), expected);
+// The product of each two of so many members has the code that arithmetic written another way gives.
+fn products<F: Field, C: Fn(u32, u32) -> u64>(
+    rt: &impl Abort,
+    size: u32,
+    expected: C,
+) -> Result<(), Fail>
+    requires { C.IsAlwaysCallable expected }
+{
+    for a in 0..size {
+        for b in 0..size {
+            assert_eq!(rt; u64::from(product_of_codes::<F>(a, b)?), expected(a, b));
         }
     }
     Ok(())
 }
 
 #[test]
+fn nibble_products(rt: HostRuntime) -> Result<(), Fail> {
+    products::<Nibble, _>(&rt, 16, nibble_product)
+}
+
+#[test]
 fn byte_products(rt: HostRuntime) -> Result<(), Fail> {
-    for a in 0..256u32 {
-        for b in 0..256u32 {
-            let expected = byte_product(u64::from(a), u64::from(b));
-            assert_eq!(rt; u64::from(product_of_codes::<Byte>(a, b)?), expected);
-        }
-    }
-    Ok(())
+    products::<Byte, _>(&rt, 256, byte_product)
+}
+
+#[test]
+fn tone_pair_products(rt: HostRuntime) -> Result<(), Fail> {
+    products::<TonePair, _>(&rt, 961, tone_pair_product)
 }
 
 // A sum of bytes is the xor of their codes.
@@ -35,22 +44,6 @@ fn byte_sums(rt: HostRuntime) -> Result<(), Fail> {
         for b in 0..256u32 {
             let sum = Byte::element(a)?.add(Byte::element(b)?);
             assert_eq!(rt; u32::from(sum.code()), a ^ b);
-        }
-    }
-    Ok(())
-}
-
-// Tone pairs multiply as complex numbers with residues modulo 31.
-#[test]
-fn tone_pair_products(rt: HostRuntime) -> Result<(), Fail> {
-    for a in 0..961u32 {
-        for b in 0..961u32 {
-            let real = (a % 31 * (b % 31) + (31 - a / 31) * (b / 31)) % 31;
-            let imaginary = (a % 31 * (b / 31) + a / 31 * (b % 31)) % 31;
-            assert_eq!(rt;
-                u32::from(product_of_codes::<TonePair>(a, b)?),
-                real + 31 * imaginary
-            );
         }
     }
     Ok(())

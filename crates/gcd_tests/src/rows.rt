@@ -3,6 +3,7 @@ use crate::plain::{Polynomial, divides, element, multiply, top};
 use fields::field::Field;
 use frames::row::{DIVISOR, Degrees, ROW, divide_by_gcd};
 use random::Random;
+use std::alloc::{AllocError, Global};
 use std::process::Abort;
 use tables::sizes::{GENERATORS, WIDTH, WORK};
 
@@ -34,18 +35,29 @@ pub fn write<F: Field>(coefficients: &mut [F], f: Polynomial) {
 
 // A row of n generators, with the work table that it is divided in.
 #[derive(Drop)]
-pub struct Row<'a, F: Field> {
+pub struct Row<F: Field> {
     pub n: usize,
-    pub generators: &'a mut [F],
-    pub work: &'a mut [F],
+    pub generators: Vec<F>,
+    pub work: Vec<F>,
 }
 
-impl<F: Field> Row<'_, F> {
+impl<F: Field + Clone> Row<F> {
+    // Generators that are zero, and a work table full of one element.
+    pub fn zeros(heap: Global, n: usize, rest: F) -> Result<Row<F>, AllocError> {
+        Ok(Row {
+            n,
+            generators: vec![in heap; F::zero(); GENERATORS]?,
+            work: vec![in heap; rest; WORK]?,
+        })
+    }
+}
+
+impl<F: Field> Row<F> {
     // The call, for tables of the right lengths.
     pub fn divide(&mut self) -> Option<Degrees> {
-        if self.n <= 8 && self.generators.len() == GENERATORS && self.work.len() == WORK {
-            let n = self.n;
-            divide_by_gcd(n, self.generators, self.work)
+        let n = self.n;
+        if n <= 8 && self.generators.len() == GENERATORS && self.work.len() == WORK {
+            divide_by_gcd(n, &self.generators, &mut self.work)
         } else {
             None
         }

@@ -4,7 +4,7 @@ use fields::field::Field;
 use nibbles::Nibble;
 use std::process::Abort;
 use std::test::Fail;
-use tables::sizes::{GENERATORS, WIDTH, WORK};
+use tables::sizes::WIDTH;
 use tones::Tone;
 use towers::{Byte, TonePair};
 
@@ -27,7 +27,7 @@ fn fill<F: Field>(n: usize, e: usize, seed: u32, generators: &mut [F]) {
 }
 
 // Every monic polynomial of degree 1, and of degree 2 where that is asked for.
-fn trials<F: Field>(rt: &impl Abort, row: &Row<'_, F>, quadratics: bool) {
+fn trials<F: Field>(rt: &impl Abort, row: &Row<F>, quadratics: bool) {
     for low in 0..F::size() {
         row.check_trial(rt, 1, low, 0);
         if quadratics {
@@ -39,18 +39,19 @@ fn trials<F: Field>(rt: &impl Abort, row: &Row<'_, F>, quadratics: bool) {
 }
 
 // From 2 to 8 generators, with factors of degree 0 to 16; then a row of zeros.
-fn rows<F: Field>(rt: &impl Abort, row: &mut Row<'_, F>, quadratics: bool) -> Result<(), Fail> {
+fn rows<F: Field + Clone>(rt: &(impl Abort + AllocGlobal), quadratics: bool) -> Result<(), Fail> {
+    let mut row = Row::zeros(rt.alloc(), 8, F::one())?;
     for e in 0..17usize {
         let seed = 1 + e as u32;
         row.n = 2 + e % 7;
-        fill(row.n, e, seed, row.generators);
+        fill(row.n, e, seed, &mut row.generators);
         let degrees = row.divide().ok_or("every generator is zero")?;
         assert!(rt; divides::<F>(e, polynomial::<F>(e, seed), row.divisor()));
         row.check_division(rt, degrees);
-        trials(rt, row, quadratics && e < 4);
+        trials(rt, &row, quadratics && e < 4);
     }
     row.n = 8;
-    row.generators.fill(F::zero());
+    tables::clear(&mut row.generators);
     assert!(rt; row.divide().is_none());
     assert_eq!(rt; top(row.divisor()), None);
     assert!(rt; row.rest_is_zero(0));
@@ -59,54 +60,32 @@ fn rows<F: Field>(rt: &impl Abort, row: &mut Row<'_, F>, quadratics: bool) -> Re
 
 #[test]
 fn tone_rows(rt: HostRuntime) -> Result<(), Fail> {
-    let mut row = Row {
-        n: 8,
-        generators: &mut [Tone::zero(); GENERATORS],
-        work: &mut [Tone::one(); WORK],
-    };
-    rows(&rt, &mut row, true)
+    rows::<Tone>(&rt, true)
 }
 
 #[test]
 fn nibble_rows(rt: HostRuntime) -> Result<(), Fail> {
-    let mut row = Row {
-        n: 8,
-        generators: &mut [Nibble::zero(); GENERATORS],
-        work: &mut [Nibble::one(); WORK],
-    };
-    rows(&rt, &mut row, true)
+    rows::<Nibble>(&rt, true)
 }
 
 #[test]
 fn byte_rows(rt: HostRuntime) -> Result<(), Fail> {
-    let mut row = Row {
-        n: 8,
-        generators: &mut [Byte::zero(); GENERATORS],
-        work: &mut [Byte::one(); WORK],
-    };
-    rows(&rt, &mut row, false)
+    rows::<Byte>(&rt, false)
 }
 
 #[test]
 fn tone_pair_rows(rt: HostRuntime) -> Result<(), Fail> {
-    let mut row = Row {
-        n: 8,
-        generators: &mut [TonePair::zero(); GENERATORS],
-        work: &mut [TonePair::one(); WORK],
-    };
-    rows(&rt, &mut row, false)
+    rows::<TonePair>(&rt, false)
 }
 
 // The row (s^2, s^2 + s) has the divisor s and the divided row (s, s + 1).
 #[test]
 fn square_and_square_with_line(rt: HostRuntime) -> Result<(), Fail> {
-    let mut row = Row {
-        n: 2,
-        generators: &mut [Tone::T0; GENERATORS],
-        work: &mut [Tone::T0; WORK],
-    };
+    let mut row = Row::zeros(rt.alloc(), 2, Tone::T0)?;
     for place in [2, 18, 19] {
-        row.generators[place] = Tone::T1;
+        if let Some(x) = row.generators.get_mut(place) {
+            *x = Tone::T1;
+        }
     }
     let degrees = row.divide().ok_or("every generator is zero")?;
     assert_eq!(rt; degrees.divisor, 1);

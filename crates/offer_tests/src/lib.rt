@@ -23,7 +23,7 @@ mod tests {
     fn clear<F: Field>(n: usize, offered: &mut [F]) {
         for column in offered.chunks_mut(GENERATORS).take(n) {
             if let Some(rows) = column.get_mut(..n.saturating_mul(WIDTH)) {
-                rows.fill(F::zero());
+                tables::clear(rows);
             }
         }
     }

@@ -5,17 +5,14 @@ use runs::request::Answer;
 use std::fmt;
 use texts::polynomial::SymbolsText;
 
-// What a granted call gave, or the refusal.
+// What a call gives where it is granted, with its answer.
 #[derive(Drop)]
-struct OutcomeText<'a, T: fmt::Display, E: Refusal + fmt::Display> {
-    granted: T,
-    answer: &'a Result<(), E>,
-}
+struct OutcomeText<'a, T: fmt::Display, E: Refusal + fmt::Display>(T, &'a Result<(), E>);
 
 impl<T: fmt::Display, E: Refusal + fmt::Display> fmt::Display for OutcomeText<'_, T, E> {
     fn fmt<W: fmt::Write>(&self, f: &mut fmt::Formatter<W>) -> fmt::Result {
-        match self.answer {
-            Ok(_) => self.granted.fmt(f),
+        match self.1 {
+            Ok(_) => self.0.fmt(f),
             Err(fault) => RefusalText { fault }.fmt(f),
         }
     }
@@ -30,18 +27,18 @@ pub struct AnswerText<'a, F: Field> {
 impl<F: Field> fmt::Display for AnswerText<'_, F> {
     fn fmt<W: fmt::Write>(&self, f: &mut fmt::Formatter<W>) -> fmt::Result {
         match self.answer {
-            Answer::Put(answer) => outcome("written", answer).fmt(f),
-            Answer::Frame { answer, .. } => outcome("framed", answer).fmt(f),
-            Answer::Offer { answer, .. } => outcome("framed", answer).fmt(f),
-            Answer::Reopen(answer) => outcome("reopened", answer).fmt(f),
+            Answer::Put(answer) => OutcomeText("written", answer).fmt(f),
+            Answer::Frame { answer, .. } => OutcomeText("framed", answer).fmt(f),
+            Answer::Offer { answer, .. } => OutcomeText("framed", answer).fmt(f),
+            Answer::Reopen(answer) => OutcomeText("reopened", answer).fmt(f),
             Answer::Encode { answer, block, .. } => {
-                outcome(SymbolsText { symbols: block }, answer).fmt(f)
+                OutcomeText(SymbolsText { symbols: block }, answer).fmt(f)
             }
             Answer::Invert {
                 answer,
                 message,
                 ..
-            } => outcome(SymbolsText { symbols: message }, answer).fmt(f),
+            } => OutcomeText(SymbolsText { symbols: message }, answer).fmt(f),
             Answer::Check { answer, .. } => match answer {
                 Ok(true) => write!(f, "clean"),
                 Ok(false) => write!(f, "unclean"),
@@ -50,11 +47,4 @@ impl<F: Field> fmt::Display for AnswerText<'_, F> {
             Answer::NotAdmitted(_) => write!(f, "not admitted"),
         }
     }
-}
-
-fn outcome<'a, T: fmt::Display, E: Refusal + fmt::Display>(
-    granted: T,
-    answer: &'a Result<(), E>,
-) -> OutcomeText<'a, T, E> {
-    OutcomeText { granted, answer }
 }

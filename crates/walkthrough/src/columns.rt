@@ -1,4 +1,6 @@
 // The columns of a frame.
+ghost use Rattle.std.specs.Prelude.{◌≡◌, ◌+◌, ◌%◌};
+
 use design::framed::Framed;
 use fields::field::Field;
 use texts::polynomial::PolynomialText;
@@ -37,7 +39,9 @@ pub fn show_columns<F: Field>(
 }
 
 // How many symbols one hit can spoil: the degree of column 0, and one more.
-pub fn spoiled(framed: &Framed) -> u16 {
+pub fn spoiled(framed: &Framed) -> u16
+    ensures { result ≡ framed.now.columns % 256 + 1 }
+{
     let [first, ..] = framed.columns().to_le_bytes();
     u16::from(first) + 1
 }
