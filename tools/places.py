@@ -68,7 +68,7 @@ POINTS = [
     ("1 arms that hand on", lambda: lines(r"Err\((\w+)\) => (return )?Err\(\1|None => (return )?(None|Err\()|Err\(_\) => (return )?(None|Err\()|\) = .* else \{$")),
     ("2 twins", twins),
     ("2 the same constant", constants),
-    ("3 counted loops", lambda: lines(r"^\s*for \w+ in \(?.*\.\.")),
+    ("3 counted loops", lambda: lines(r"^\s*for \w+ in [^\[]*\.\.")),
     ("3 while and loop", lambda: lines(r"^\s*(while .*|loop )\{")),
     ("4 printing, conversion, comparison", lambda: lines(r"impl.* (fmt::Display|From<.*>|TryFrom<.*>|PartialEq|Ord) for|fn (same|equal|holds)\b")),
     ("5 facts that three functions require", repeated_facts),
