@@ -24,13 +24,6 @@ walk-requires g c =
           s.factors.now s.pivots.now w.places w.found c.args.frame.now c.new-walk.ensures.unmarked c.requires.cleared);
     }
 
-pub write_first-requires : goal.write_first-requires
-write_first-requires g c = record {
-  room = omega arith;
-  walked = rw c.walk.ensures.row c.walk.ensures.walked;
-  coprime = rw (c.walk.ensures.row, c.new-walk.ensures.row) c.requires.coprime;
-}
-
 pub returns : goal.returns
 returns g c =
     let first = c.write_first.ensures in

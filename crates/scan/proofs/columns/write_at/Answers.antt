@@ -8,7 +8,7 @@ use Rattle.std.proofs.lemmas.List.{length_push}
 use Rattle.elimination.specs.Steps.{entry_at}
 use Rattle.tables.specs.Places.{at}
 use Rattle.scan.specs.Columns.{AtPlaces}
-use Rattle.scan.proofs.Cells.{at_places_none, at_places_more, places_behind, zipped_is, zipped_all}
+use Rattle.scan.proofs.Cells.{at_places_more, places_behind, zipped_is, zipped_all}
 use Rattle.scan.proofs.columns.write_at.Goals as goal
 
 pub put_at-requires : goal.put_at-requires
@@ -20,9 +20,6 @@ put_at-requires g c =
     let here = zipped_is f.ops f.member c.args.places.now c.args.list.now t (c.in-Some.q.now, c.in-Some.x.now) c.requires.room.0 turn in
     let within : c.in-Some.q.now < c.args.row.now.n * 17 = rw here.1.0 (c.requires.rising.within t here.0) in
     record { column = c.requires.column; room = (within, omega arith) }
-
-pub loop-q-init : goal.loop-q-init
-loop-q-init g c = let f = g.F.Field in at_places_none f.ops f.member c.args.row.now.n c.args.j (entry_at c.args.places.now) (at f.ops f.member c.args.list.now) c.args.frame.now
 
 pub loop-q-preserved : goal.loop-q-preserved
 loop-q-preserved g c =

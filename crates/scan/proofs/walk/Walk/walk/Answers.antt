@@ -1,28 +1,10 @@
-use mathlib.Core.Path.{◌≡◌, refl, ap, subst, ◌∙◌}
+use mathlib.Core.Path.{◌≡◌, ap, subst}
 use Prim.Native.Nat.{ℕ, suc, ◌*◌}
 use native.Mathlib.Numerals.{add-one}
 use native.Mathlib.Omega.{arith}
 use Rattle.frames.specs.Rows.{generator_in}
 use Rattle.scan.specs.Walked.{Walked}
 use Rattle.scan.proofs.walk.Walk.walk.Goals as goal
-
-pub loop-q-init : goal.loop-q-init
-loop-q-init g c = record { kept = refl; walked = c.requires.walked; behind = λ k l. refl }
-
-pub walk_place-requires : goal.walk_place-requires
-walk_place-requires g c =
-    let row = c.args.self.now.row in
-    let more = ap (λ t. row.n * t) (add-one row.d) in
-    rw c.loop-q.invariant.kept record {
-      place = omega arith;
-      room = omega arith;
-      walked = c.loop-q.invariant.walked;
-    }
-
-pub loop-q-preserved : goal.loop-q-preserved
-loop-q-preserved g c =
-    let w = c.walk_place.ensures in
-    record { kept = w.row ∙ c.loop-q.invariant.kept; walked = rw add-one (rw c.loop-q.invariant.kept at w.walked); behind = λ k l. w.behind k l ∙ c.loop-q.invariant.behind k l }
 
 pub returns : goal.returns
 returns g c =
