@@ -1,6 +1,5 @@
 use mathlib.Core.Path.{◌≡◌, sym, subst, ◌∙◌}
-use Prim.Native.Nat.{ℕ, ◌*◌, ◌<◌}
-use native.Mathlib.Omega.{arith}
+use Prim.Native.Nat.{ℕ}
 use lib.ListN.{length}
 use Rattle.std.proofs.lemmas.Iterator.{YieldsList-from_slice, YieldsList-from_zip}
 use Rattle.std.proofs.lemmas.Iterator.Consumers.{YieldsList-turn, YieldsList-end}
@@ -10,16 +9,6 @@ use Rattle.tables.specs.Places.{at}
 use Rattle.scan.specs.Columns.{AtPlaces}
 use Rattle.scan.proofs.Cells.{at_places_more, places_behind, zipped_is, zipped_all}
 use Rattle.scan.proofs.columns.write_at.Goals as goal
-
-pub put_at-requires : goal.put_at-requires
-put_at-requires g c =
-    let f = g.F.Field in
-    let t = length c.loop-q.yielded in
-    let chain = YieldsList-from_zip (YieldsList-from_slice c.args.places.now cc) (YieldsList-from_slice c.args.list.now cc) in
-    let turn = YieldsList-turn chain c.loop-q.yielded _ c.loop-q.yielded_by c.next.result c.next.new.self (c.in-Some.q, c.in-Some.x) c.in-Some.is c.next.ensures.steps in
-    let here = zipped_is f.ops f.member c.args.places.now c.args.list.now t (c.in-Some.q.now, c.in-Some.x.now) c.requires.room.0 turn in
-    let within : c.in-Some.q.now < c.args.row.now.n * 17 = rw here.1.0 (c.requires.rising.within t here.0) in
-    record { column = c.requires.column; room = (within, omega arith) }
 
 pub loop-q-preserved : goal.loop-q-preserved
 loop-q-preserved g c =
