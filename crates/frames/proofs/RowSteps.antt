@@ -14,7 +14,8 @@ use Rattle.algebra.proofs.Sums as Sums
 use Rattle.tables.specs.Places.{at, Kept, Cleared, poly_at}
 use Rattle.polynomials.specs.Polynomials.{DegreeOf}
 use Rattle.tables.proofs.Parts as P
-use Rattle.tables.proofs.Slices.{at_drop, at_take, at_left, at_right, at_below, cleared_append, cleared_take, cleared_drop}
+use Rattle.tables.proofs.Slices.{part_is, at_drop, at_take, at_left, at_right, at_below, cleared_append, cleared_take, cleared_drop}
+use Rattle.std.proofs.lemmas.List.{take_at, drop_at, drop-drop}
 use Rattle.frames.specs.Common.{GcdOfPair, GcdOfFirst, MonicLike}
 use Rattle.frames.specs.Rows.{row_in, generator_in, gcd_in, quotient_in, ZeroOutside, Highest, DividedByGcd}
 use Rattle.frames.proofs.Common as C
@@ -120,6 +121,32 @@ monic_degree o laws f g e like = record { top = λ z. laws.zero_not_one (sym z �
 module _ {F R : Type 0} (o : RingOps R) (L : RingLaws o) (member : F → R) where
   pub zero_part : (xs : List F) (base width : ℕ) → ((k : ℕ) → k < width → at o member xs (base + k) ≡ o.zero) → poly_at o member xs base width ≡ (series o).zero
   zero_part xs base width z = P.poly_at_is o member xs base width (series o).zero (λ k h. refl) z
+
+  -- after i of the n rows that `xs[..17 * n].chunks_exact(17)` gives, rest is left: the next one
+  pub chunk_next : (xs rest part next : List F) (n i : ℕ) → 17 * n ≤ length xs → rest ≡ drop (17 * i) (take (17 * n) xs) → rest ≡ part ++ next → length part ≡ 17
+      → (i < n) × (next ≡ drop (17 * (i + 1)) (take (17 * n) xs)) × (at o member part ≡ poly_at o member xs (17 * i) 17)
+  chunk_next xs rest part next n i room rest_is split size =
+      let all = take (17 * n) xs in
+      let all_long : length all ≡ 17 * n = length-take-le (17 * n) xs room in
+      let rest_long : length rest ≡ length all - 17 * i = ap length rest_is ∙ length-drop (17 * i) all in
+      let both : length rest ≡ length part + length next = ap length split ∙ length-append part next in
+      let few : i < n = omega arith in
+      let then_is : part ++ next ≡ drop (17 * i) all = sym split ∙ rest_is in (
+        few,
+        sym (drop_at part next 17 size) ∙ ap (drop 17) then_is ∙ drop-drop 17 (17 * i) all ∙ ap (λ k. drop k all) (let e : 17 * i + 17 ≡ 17 * (i + 1) = omega arith in e),
+        ap (at o member) (sym (take_at part next 17 size) ∙ ap (take 17) then_is)
+            ∙ part_is o member all (17 * i) 17
+            ∙ P.poly_at_is o member all (17 * i) 17 (poly_at o member xs (17 * i) 17) (P.poly_at_below o member xs (17 * i) 17)
+            (λ k h. at_take o member (17 * n) xs (17 * i + k) (omega arith) ∙ sym (P.poly_at_in o member xs (17 * i) 17 k h)),
+      )
+
+  -- there is no next one after the last
+  pub chunk_last : (xs rest : List F) (n i : ℕ) → 17 * n ≤ length xs → rest ≡ drop (17 * i) (take (17 * n) xs) → length rest < 17 → i ≤ n → i ≡ n
+  chunk_last xs rest n i room rest_is short few =
+      let all = take (17 * n) xs in
+      let all_long : length all ≡ 17 * n = length-take-le (17 * n) xs room in
+      let rest_long : length rest ≡ length all - 17 * i = ap length rest_is ∙ length-drop (17 * i) all in
+      omega arith
 
   -- the first i quotients, and zero behind them
   abbrev pub DividedFirst : ℕ → (ℕ → ℕ → R) → (ℕ → R) → List F → Type 0

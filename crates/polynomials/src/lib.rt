@@ -15,12 +15,7 @@ use tables::rows::add_multiple;
 pub fn degree<F: Field>(part: &[F]) -> Option<usize>
     ensures { DegreeOf F.ops (length part.now) (at F.ops F.member part.now) result }
 {
-    for k in (0..part.len()).rev() {
-        if !part[k].same(F::zero()) {
-            return Some(k);
-        }
-    }
-    None
+    part.iter().rposition(|x| !x.same(F::zero()))
 }
 
 // Adds to a polynomial the product of two others.
@@ -56,7 +51,7 @@ pub fn reduce<F: Field>(dividend: &mut [F], divisor: &[F], e: usize)
     }
 }
 
-// The same, with the quotient written into a cleared slice.
+// The same, with the quotient written into a cleared slice. The two loops share their step, and `reduce` has no place for a quotient.
 fn divide<F: Field>(dividend: &mut [F], divisor: &[F], e: usize, quotient: &mut [F])
     requires room { length dividend.old ≤ length quotient.old }
     requires degree { Degree F.ops (at F.ops F.member divisor.now) e }

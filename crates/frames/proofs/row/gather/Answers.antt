@@ -1,36 +1,54 @@
-use Rattle.std.proofs.Common.{◌≡◌, ◌*◌, ◌+◌, ℕ, ap, ◌∙◌, subst, arith}
+use Rattle.std.proofs.Common.{◌≡◌, ◌<◌, ◌*◌, ◌+◌, ℕ, [], ◌∷◌, ◌++◌, take, drop, length, length-append, sym, ap, ◌∙◌, subst, arith}
+use Rattle.std.specs.Slice.Iter.{chunks_exact_rest, chunks_exact_size}
 use Rattle.frames.specs.Common.{GcdOfFirst}
 use Rattle.tables.specs.Places.{at}
-use Rattle.tables.proofs.Slices.{range_is}
 use Rattle.frames.specs.Rows.{generator_in}
-use Rattle.frames.proofs.RowSteps.{gcd_of_none, gcd_of_more}
+use Rattle.frames.proofs.RowSteps.{chunk_next, chunk_last, gcd_of_none, gcd_of_more}
 use Rattle.frames.proofs.row.gather.Goals as goal
 
-pub loop-i-init : goal.loop-i-init
-loop-i-init g c =
+pub loop-generator-init : goal.loop-generator-init
+loop-generator-init g c =
     let f = g.F.Field in
+    let start = c.into_iter-generator-iterator.ensures.into_iter_gives in
     record {
+      size = ap chunks_exact_size start ∙ c.chunks_exact-generator-items.ensures.size;
+      left = ap chunks_exact_rest start ∙ c.chunks_exact-generator-items.ensures.rest;
+      few = omega arith;
       divisors = gcd_of_none f.ops g.met.F.Field.laws.ring (generator_in f.ops f.member c.args.generators.now) (at f.ops f.member c.args.divisor.now) c.requires.cleared.1;
       spare = c.requires.cleared.0;
     }
 
-pub loop-i-preserved : goal.loop-i-preserved
-loop-i-preserved g c =
+pub loop-generator-preserved : goal.loop-generator-preserved
+loop-generator-preserved g c =
     let f = g.F.Field in
-    let i = c.loop-i.i in
-    let copied = ap (at f.ops f.member) c.copy_from_slice.ensures.after ∙ range_is f.ops f.member c.args.generators.now (17 * i) (17 * i + 17) 17 (omega arith) in
+    let L = g.met.F.Field.laws.ring in
+    let generators = c.args.generators.now in
+    let part = c.in-Some.generator.now in
+    let i = length c.loop-generator.yielded in
+    let steps = c.in-Some.ensures.steps in
+    let next = chunk_next f.ops L f.member generators (chunks_exact_rest c.loop-generator.generator-iterator) part (chunks_exact_rest c.next.new.self) c.args.n i c.requires.room.0 c.loop-generator.invariant.left steps.1.0 (steps.1.1 ∙ c.loop-generator.invariant.size) in
+    let few : i < c.args.n = next.0 in
+    let count : length (c.loop-generator.yielded ++ c.in-Some.generator ∷ []) ≡ i + 1 = length-append c.loop-generator.yielded (c.in-Some.generator ∷ []) in
+    let more = gcd_of_more f.ops L i (generator_in f.ops f.member generators)
+    (at f.ops f.member c.loop-generator.divisor) (at f.ops f.member c.copy_from_slice.new.self) (at f.ops f.member c.euclid.new.left)
+    c.loop-generator.invariant.divisors c.euclid.ensures.divisors (ap (at f.ops f.member) c.copy_from_slice.ensures.after ∙ next.2) in
     record {
-      divisors = gcd_of_more f.ops g.met.F.Field.laws.ring i (generator_in f.ops f.member c.args.generators.now)
-          (at f.ops f.member c.loop-i.divisor) (at f.ops f.member c.copy_from_slice.new.self) (at f.ops f.member c.euclid.new.left)
-          c.loop-i.invariant.divisors c.euclid.ensures.divisors copied;
+      size = steps.0 ∙ c.loop-generator.invariant.size;
+      left = next.1 ∙ ap (λ k. drop (17 * k) (take (17 * c.args.n) generators)) (sym count);
+      few = omega arith;
+      divisors = subst (λ (k : ℕ). GcdOfFirst f.ops k (generator_in f.ops f.member generators) (at f.ops f.member c.euclid.new.left)) (sym count) more;
       spare = c.euclid.ensures.cleared;
     }
 
 pub returns : goal.returns
 returns g c =
     let f = g.F.Field in
-    let all : c.loop-i.i ≡ c.args.n = omega arith in
+    let generators = c.args.generators.now in
+    let rest = chunks_exact_rest c.loop-generator.generator-iterator in
+    let i = length c.loop-generator.yielded in
+    let short : length rest < 17 = omega (arith, c.in-None.ensures.steps.1.0, c.loop-generator.invariant.size) in
+    let all : i ≡ c.args.n = chunk_last f.ops g.met.F.Field.laws.ring f.member generators rest c.args.n i c.requires.room.0 c.loop-generator.invariant.left short c.loop-generator.invariant.few in
     record {
-      divisors = subst (λ (i : ℕ). GcdOfFirst f.ops i (generator_in f.ops f.member c.args.generators.now) (at f.ops f.member c.loop-i.divisor)) all c.loop-i.invariant.divisors;
-      rest = c.loop-i.invariant.spare;
+      divisors = subst (λ (k : ℕ). GcdOfFirst f.ops k (generator_in f.ops f.member generators) (at f.ops f.member c.loop-generator.divisor)) all c.loop-generator.invariant.divisors;
+      rest = c.loop-generator.invariant.spare;
     }
