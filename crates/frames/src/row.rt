@@ -12,7 +12,7 @@ use polynomials::{degree, divide_exactly};
 use tables::cells::inverse_at;
 use tables::clear;
 use tables::rows::scale;
-use tables::sizes::WIDTH;
+use tables::sizes::{GENERATORS, WIDTH, WORK};
 
 // Where the divisor stands in the work table.
 pub const DIVISOR: usize = 4368;
@@ -29,7 +29,7 @@ pub struct Degrees {
 
 // Leaves where zero stood a greatest common divisor of the first n generators.
 fn gather<F: Field>(n: usize, generators: &[F], spare: &mut [F], divisor: &mut [F])
-    requires room { (17 * n ≤ length generators.now) × ((length spare.old ≡ 17) × (length divisor.old ≡ 17)) }
+    requires room { (WIDTH * n ≤ length generators.now) × ((length spare.old ≡ WIDTH) × (length divisor.old ≡ WIDTH)) }
     requires cleared { (at F.ops F.member spare.old ≡ (series F.ops).zero) × (at F.ops F.member divisor.old ≡ (series F.ops).zero) }
     ensures divisors { GcdOfFirst F.ops n (generator_in F.ops F.member generators.now) (at F.ops F.member divisor.new) }
     ensures rest { at F.ops F.member spare.new ≡ (series F.ops).zero }
@@ -42,7 +42,7 @@ fn gather<F: Field>(n: usize, generators: &[F], spare: &mut [F], divisor: &mut [
 
 // Makes the divisor monic and answers its degree; a divisor that is zero stays.
 fn make_monic<F: Field>(divisor: &mut [F]) -> Option<usize>
-    requires { length divisor.old ≡ 17 }
+    requires { length divisor.old ≡ WIDTH }
     ensures { MadeMonic F.ops (at F.ops F.member divisor.old) (at F.ops F.member divisor.new) result }
 {
     let e = degree(divisor)?;
@@ -60,12 +60,12 @@ fn divide_row<F: Field>(
     e: usize,
     row: &mut [F],
 )
-    requires room { (17 * n ≤ length generators.now) × ((length spare.old ≡ 17) × (17 * n ≤ length row.old)) }
+    requires room { (WIDTH * n ≤ length generators.now) × ((length spare.old ≡ WIDTH) × (WIDTH * n ≤ length row.old)) }
     requires degree { Degree F.ops (at F.ops F.member divisor.now) e }
     requires divides { (i : ℕ) → i < n → Divides F.ops (at F.ops F.member divisor.now) (generator_in F.ops F.member generators.now i) }
     requires cleared { (at F.ops F.member spare.old ≡ (series F.ops).zero) × (Cleared F.ops F.member row.old) }
     ensures row { (i : ℕ) → i < n → (series F.ops).product (at F.ops F.member divisor.now) (row_in F.ops F.member row.new 0 i) ≡ generator_in F.ops F.member generators.now i }
-    ensures behind { (k : ℕ) → 17 * n ≤ k → at F.ops F.member row.new k ≡ F.ops.zero }
+    ensures behind { (k : ℕ) → WIDTH * n ≤ k → at F.ops F.member row.new k ≡ F.ops.zero }
     ensures rest { at F.ops F.member spare.new ≡ (series F.ops).zero }
 {
     for (i, generator) in generators[..WIDTH * n].chunks_exact(WIDTH).enumerate() {
@@ -77,7 +77,7 @@ fn divide_row<F: Field>(
 
 // The highest degree of the first n polynomials of a row; 0 where every one is zero.
 pub fn row_degree<F: Field>(n: usize, row: &[F]) -> usize
-    requires { 17 * n ≤ length row.now }
+    requires { WIDTH * n ≤ length row.now }
     ensures value { Highest F.ops n (row_in F.ops F.member row.now 0) result }
     ensures bound { result ≤ 16 }
 {
@@ -91,7 +91,7 @@ pub fn row_degree<F: Field>(n: usize, row: &[F]) -> usize
 // Writes the monic greatest common divisor of the first n generators and the row divided by it into the work table, whose other places become zero,
 // and answers their degrees; absent where every generator is zero.
 pub fn divide_by_gcd<F: Field>(n: usize, generators: &[F], work: &mut [F]) -> Option<Degrees>
-    requires { (n ≤ 8) × ((length generators.now ≡ 136) × (length work.old ≡ 4521)) }
+    requires { (n ≤ 8) × ((length generators.now ≡ GENERATORS) × (length work.old ≡ WORK)) }
     ensures { MatchOption result (AllZero F.ops n (generator_in F.ops F.member generators.now) × Cleared F.ops F.member work.new) (λ d. DividedByGcd F.ops F.member n generators.now work.new d.divisor d.row) }
 {
     clear(work);

@@ -15,12 +15,7 @@ use tables::rows::add_multiple;
 pub fn degree<F: Field>(part: &[F]) -> Option<usize>
     ensures { DegreeOf F.ops (length part.now) (at F.ops F.member part.now) result }
 {
-    for k in (0..part.len()).rev() {
-        if !part[k].same(F::zero()) {
-            return Some(k);
-        }
-    }
-    None
+    part.iter().rposition(|x| !x.same(F::zero()))
 }
 
 // Adds to a polynomial the product of two others.
