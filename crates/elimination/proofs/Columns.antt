@@ -4,7 +4,7 @@ use mathlib.Core.Path.{fun_ext}
 use native.Mathlib.Decide.{ℕ_discrete, dec_lt}
 use Rattle.algebra.specs.Rings.{RingOps, RingLaws}
 use Rattle.algebra.proofs.Solver.{solve, var, 𝟎, ◌⊞◌, ◌⊠◌}
-use Rattle.tables.specs.Places.{at, Kept}
+use Rattle.tables.specs.Places.{at}
 use Rattle.tables.proofs.Places.{at_read, at_past, at_set_same, at_set_other}
 use Rattle.elimination.specs.Steps.{write, step}
 use Rattle.elimination.proofs.StepMaps.{write_same, write_other}
@@ -26,13 +26,13 @@ module _ {F M : Type 0} (o : RingOps M) (m : F → M) where
       ((k : ℕ) → k < r → at o m now k ≡ o.sum (at o m start k) (o.product (at o m factors k) y))
       × ((k : ℕ) → r ≤ k → at o m now k ≡ at o m start k)
 
-  pub added_more : (start factors : List F) (y : M) (now next : List F) (r : ℕ) → Added start factors y now r → at o m next r ≡ o.sum (at o m now r) (o.product (at o m factors r) y) → Kept o m r 1 now next → Added start factors y next (r + 1)
-  added_more start factors y now next r (a, b) here others = (
-    (λ k h. elim (ℕ_discrete k r) [
-      | yes e ↦ subst (λ j. at o m next j ≡ o.sum (at o m start j) (o.product (at o m factors j) y)) (sym e) (here ∙ ap (λ s. o.sum s (o.product (at o m factors r) y)) (b r (le_refl r)))
-      | no n ↦ others k (λ w. n (omega arith)) ∙ a k (omega arith)
-    ]),
-    λ k h. others k (λ w. omega arith) ∙ b k (omega arith),
+  pub added_more : (start factors : List F) (y : M) (now : List F) (r : ℕ) (x : F) → r < length now → Added start factors y now r → m x ≡ o.sum (at o m now r) (o.product (at o m factors r) y) → Added start factors y (set now r x) (r + 1)
+  added_more start factors y now r x room (a, b) is = (
+    λ k h. elim (ℕ_discrete k r) [
+      | yes e ↦ subst (λ j. at o m (set now r x) j ≡ o.sum (at o m start j) (o.product (at o m factors j) y)) (sym e) (at_set_same o m now r x room ∙ is ∙ ap (λ s. o.sum s (o.product (at o m factors r) y)) (b r (le_refl r)))
+      | no n ↦ at_set_other o m now r k x n ∙ a k (omega arith)
+    ],
+    λ k h. at_set_other o m now r k x (λ e. omega arith) ∙ b k (omega arith),
   )
 
   module _ (L : RingLaws o) where

@@ -136,6 +136,7 @@ pub fn eliminate<F: Field>(
     ensures relations { Relations F.ops rows (column_at F.ops F.member rows matrix.old) (column_at F.ops F.member rows matrix.new) columns result (entry_at places.new) }
 {
     let mut steps = Steps::new(rows, factors, pivots);
+    // By the index, since chunks of no rows are refused, and a proof does not know what a loop over lent chunks leaves in the matrix.
     for q in 0..columns {
         steps.take_next(places, matrix, q, q);
     }

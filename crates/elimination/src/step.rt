@@ -4,7 +4,6 @@ ghost use Rattle.tables.specs.Places.{at};
 ghost use Rattle.elimination.specs.Steps.{step as after_step, reduced, column_at, entry_at, write, AreSteps, IsPivot};
 
 use fields::field::Field;
-use tables::cells::{get, put};
 
 // Takes x times the factors from the column, row by row.
 fn subtract_multiple<F: Field>(factors: &[F], x: F, column: &mut [F])
@@ -12,8 +11,8 @@ fn subtract_multiple<F: Field>(factors: &[F], x: F, column: &mut [F])
     ensures { (r : ℕ) → at F.ops F.member column.new r ≡ F.ops.sum (at F.ops F.member column.old r) (F.ops.product (at F.ops F.member factors.now r) (F.ops.negative (F.member x))) }
 {
     let minus = x.negate();
-    for (r, factor) in factors.iter().enumerate() {
-        put(column, r, get(column, r).add(factor.multiply(minus)));
+    for (r, entry) in column.iter_mut().enumerate() {
+        *entry = entry.add(factors[r].multiply(minus));
     }
 }
 

@@ -26,8 +26,8 @@ pub fn write_at<F: Field>(row: &Row<'_, F>, j: usize, places: &[usize], list: &[
     ensures written { AtPlaces F.ops F.member row.now.n j (length places.now) (entry_at places.now) (at F.ops F.member list.now) frame.old frame.new }
     ensures behind { (k : ℕ) → 1088 ≤ k → at F.ops F.member frame.new k ≡ at F.ops F.member frame.old k }
 {
-    for (t, q) in places.iter().enumerate() {
-        put_at(row, j, *q, list[t], frame);
+    for (q, x) in places.iter().zip(list) {
+        put_at(row, j, *q, *x, frame);
     }
 }
 

@@ -1,21 +1,8 @@
 use Rattle.std.proofs.Common.{◌≡◌, ◌+◌, ◌∙◌, subst, arith}
 use Rattle.elimination.specs.Steps.{column_at, entry_at}
 use Rattle.elimination.specs.Echelon.{Echelon, Relations}
-use Rattle.elimination.proofs.Tables.{row_room}
-use Rattle.elimination.proofs.Whole.{Progress, progress_none, progress_more}
+use Rattle.elimination.proofs.Whole.{Progress, progress_more}
 use Rattle.elimination.proofs.eliminate.Goals as goal
-
-pub take_next-requires : goal.take_next-requires
-take_next-requires g c = rw c.loop-q.invariant.rows record { room = (omega (arith, c.requires.room, c.loop-q.auto), omega (arith, c.requires.room, c.loop-q.auto, row_room c.args.rows c.loop-q.q c.args.columns c.loop-q-test.true)) }
-
-pub loop-q-init : goal.loop-q-init
-loop-q-init g c =
-    let f = g.F.Field in
-    let s = c.new-steps.result in
-    record {
-      rows = c.new-steps.ensures.0;
-      progress = rw c.new-steps.ensures.1 (progress_none f.ops f.member g.met.F.Field.laws.ring c.args.rows c.args.matrix.now s.factors.now s.pivots.now c.args.places.now);
-    }
 
 pub loop-q-preserved : goal.loop-q-preserved
 loop-q-preserved g c =

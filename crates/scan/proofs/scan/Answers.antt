@@ -1,4 +1,3 @@
-use mathlib.Core.Path.{◌∙◌}
 use native.Mathlib.Omega.{arith}
 use Rattle.algebra.specs.Divisors.{VectorDegree}
 use Rattle.algebra.specs.Rings.{IsField}
@@ -22,20 +21,4 @@ walk-requires g c =
       walked = rw (c.new-walk.ensures.none.0, c.new-walk.ensures.none.1)
           (Walking.walked_start f.ops field f.member w.row.n w.row.d s.rows r w.row.sized.0 w.row.sized.1.0 w.row.sized.1.1 w.wide degree
           s.factors.now s.pivots.now w.places w.found c.args.frame.now c.new-walk.ensures.unmarked c.requires.cleared);
-    }
-
-pub write_first-requires : goal.write_first-requires
-write_first-requires g c = record {
-  room = omega arith;
-  walked = rw c.walk.ensures.row c.walk.ensures.walked;
-  coprime = rw (c.walk.ensures.row, c.new-walk.ensures.row) c.requires.coprime;
-}
-
-pub returns : goal.returns
-returns g c =
-    let first = c.write_first.ensures in
-    record {
-      columns = rw (c.walk.ensures.row, c.new-walk.ensures.row) at first.columns;
-      rest = rw (c.walk.ensures.row, c.new-walk.ensures.row) at first.rest;
-      behind = λ k l. first.behind k l ∙ c.walk.ensures.behind k l;
     }

@@ -9,9 +9,6 @@ use Rattle.tables.proofs.Places.{at_past}
 use Rattle.elimination.proofs.Skipped.{skipped_is, skipped_all}
 use Rattle.elimination.proofs.step.find_pivot.Goals as goal
 
-pub loop-row-init : goal.loop-row-init
-loop-row-init g c = λ k low h. absurd (omega arith)
-
 pub loop-row-preserved : goal.loop-row-preserved
 loop-row-preserved g c =
     let f = g.F.Field in
