@@ -9,7 +9,6 @@ ghost use Rattle.judging.specs.Columns.{check_degree, InOrder, NoHigher};
 use crate::offer::Offer;
 use fields::field::Field;
 use frames::row::row_degree;
-use tables::sizes::GENERATORS;
 
 // The first n columns of an offered table, with their degrees, 0 for one that is zero.
 #[derive(Drop)]
@@ -32,7 +31,7 @@ impl<'a, F: Field> Graded<'a, F> {
         let Offer { n, offered, .. } = *offer;
         let mut degrees = [0; 8];
         for (j, degree) in degrees[..n].iter_mut().enumerate() {
-            *degree = row_degree(n, &offered[GENERATORS * j..]);
+            *degree = row_degree(n, offer.column(j));
         }
         Graded {
             n,

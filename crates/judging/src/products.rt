@@ -1,7 +1,7 @@
 // The generators times the offered columns.
 ghost use Rattle.std.specs.Prelude.{◌≡◌, ◌<◌, ◌≤◌, length, MatchOption};
 ghost use Rattle.algebra.specs.Series.{series, dot};
-ghost use Rattle.frames.specs.Rows.{generator_in};
+ghost use Rattle.frames.specs.Rows.{generator_in, row_in};
 ghost use Rattle.framing.specs.Framing.{column_in};
 ghost use Rattle.tables.specs.Places.{at};
 ghost use Rattle.judging.specs.Answers.{Tells};
@@ -12,24 +12,24 @@ use fields::field::Field;
 use polynomials::{degree, multiply_into};
 use tables::clear;
 use tables::rows::add_multiple;
-use tables::sizes::{GENERATORS, WIDTH};
+use tables::sizes::WIDTH;
 
 // How many coefficients the product of two polynomials has.
 const PRODUCT: usize = 33;
 
 impl<'a, F: Field> Offer<'a, F> {
-    // Writes the generators times column j.
-    fn write_product(&self, j: usize, product: &mut [F])
-        requires { (j < 8) × (length product.old ≡ 33) }
-        ensures { at F.ops F.member product.new ≡ dot (series F.ops) self.now.n (generator_in F.ops F.member self.now.generators.now) (column_in F.ops F.member self.now.offered.now j) }
+    // Writes the generators times a column.
+    fn write_product(&self, column: &[F], product: &mut [F])
+        requires { (length column.now ≡ 136) × (length product.old ≡ 33) }
+        ensures { at F.ops F.member product.new ≡ dot (series F.ops) self.now.n (generator_in F.ops F.member self.now.generators.now) (row_in F.ops F.member column.now 0) }
     {
         clear(product);
         for i in 0..self.n {
-            let (left, right) = (WIDTH * i, GENERATORS * j + WIDTH * i);
+            let start = WIDTH * i;
             multiply_into(
                 product,
-                &self.generators[left..left + WIDTH],
-                &self.offered[right..right + WIDTH],
+                &self.generators[start..start + WIDTH],
+                &column[start..start + WIDTH],
             );
         }
     }
@@ -39,9 +39,10 @@ impl<'a, F: Field> Offer<'a, F> {
         requires { (j < 8) × (length polynomial.now ≤ 33) }
         ensures { Tells (dot (series F.ops) self.now.n (generator_in F.ops F.member self.now.generators.now) (column_in F.ops F.member self.now.offered.now j) ≡ at F.ops F.member polynomial.now) result }
     {
+        let column = self.column(j);
         let mut cells = [F::zero(); PRODUCT];
-        let difference = &mut cells[..PRODUCT];
-        self.write_product(j, difference);
+        let difference = &mut cells[..];
+        self.write_product(column, difference);
         add_multiple(difference, 0, F::one().negate(), polynomial);
         degree(difference).is_none()
     }

@@ -1,4 +1,4 @@
-use Rattle.std.proofs.Common.{◌*◌, ℕ, ◌<◌, ◌≤◌, length, sym, subst, arith, rules, below_more}
+use Rattle.std.proofs.Common.{◌+◌, ◌*◌, ℕ, ◌<◌, ◌≤◌, length, sym, subst, arith, rules, below_more}
 use Rattle.std.proofs.lemmas.List.{get_or-set_same, get_or-set_other, get_or_append_left}
 use Rattle.frames.specs.Rows.{Highest}
 use Rattle.framing.specs.Framing.{column_in}
@@ -21,7 +21,7 @@ loop-j-preserved g c =
       all = search rules;
       degrees = below_more _ _
           (λ i h. subst (λ (d : ℕ). Highest f.ops n (columns i) d) (kept i h) (c.loop-j.invariant.degrees i h))
-          (subst (λ (d : ℕ). Highest f.ops n (columns j) d) here (highest_range f.ops f.member offered (136 * j) (length offered) n v (omega arith) c.row_degree.ensures.value));
+          (subst (λ (d : ℕ). Highest f.ops n (columns j) d) here (highest_range f.ops f.member offered (136 * j) (136 * j + 136) n v (omega arith) (rw c.column.ensures.value at c.row_degree.ensures.value)));
       bound = below_more _ _
           (λ i h. subst (λ (d : ℕ). d ≤ 16) (kept i h) (c.loop-j.invariant.bound i h))
           (subst (λ (d : ℕ). d ≤ 16) here c.row_degree.ensures.bound);

@@ -1,14 +1,13 @@
-use Rattle.std.proofs.Common.{◌≡◌, ℕ, ◌-◌, Some, None, sym, refl, ◌∙◌, subst, arith}
+use Rattle.std.proofs.Common.{◌≡◌, ◌-◌, Some, None, sym, refl, ◌∙◌, arith}
 use Rattle.std.proofs.lemmas.Option.{MatchOption-at_none, MatchOption-at_some}
 use Rattle.std.proofs.lemmas.Result.{err_from_is_err_and}
-use Rattle.algebra.specs.Series.{dot, series, Degree}
-use Rattle.algebra.specs.DegreeTest.{PassesTest}
+use Rattle.algebra.specs.Series.{dot, series}
 use Rattle.algebra.proofs.Fields.{field_of}
 use Rattle.tables.proofs.Slices.{part_is}
 use Rattle.frames.specs.Rows.{generator_in, gcd_in}
 use Rattle.framing.specs.Framing.{column_in}
 use Rattle.framing.proofs.Whole.{degrees_within}
-use Rattle.judging.specs.Offers.{RowOf, Objects, every_zero, first_differs, no_syzygy, by_degree}
+use Rattle.judging.specs.Offers.{Objects, every_zero, first_differs, no_syzygy, by_degree}
 use Rattle.judging.specs.declared.objection.Objection.TheVariants.{AllZero, First, Check}
 use Rattle.judging.proofs.Exactness.{first_nonzero, test_passed, passed_optimal, objects_never, row_divided, column_polynomial}
 use Rattle.judging.proofs.offer.Offer.judge.Goals as goal
