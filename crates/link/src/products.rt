@@ -26,13 +26,14 @@ impl<'a, F: Field> Streams<'a, F> {
         requires { i < self.now.n }
         ensures { F.member result ≡ (series F.ops).product (stream F.ops F.member self.now.n self.now.symbols.now i) (at F.ops F.member polynomial.now) t }
     {
-        // The last time up to t that has symbols: they meet the polynomial's coefficients of s^(t - last) and above.
+        // The last time up to t that has symbols: the coefficient of s^(t - last) meets it, and those above meet the times before.
         let last = t.min(self.times - 1);
-        let coefficients = &polynomial[polynomial.len().min(t - last)..];
+        let above = &polynomial[polynomial.len().min(t - last)..];
+        let coefficients = &above[..above.len().min(last + 1)];
         let symbols = self.symbols;
         let mut sum = F::zero();
-        for (coefficient, time) in coefficients.iter().zip((0..last + 1).rev()) {
-            sum = sum.add(coefficient.multiply(symbols[self.n * time + i]));
+        for (k, coefficient) in coefficients.iter().enumerate() {
+            sum = sum.add(coefficient.multiply(symbols[self.n * (last - k) + i]));
         }
         sum
     }

@@ -1,10 +1,12 @@
 // One request.
+ghost use Rattle.std.specs.Prelude.{◌≡◌, Ok as Granted, Err as Refused, MatchResult};
 ghost use Rattle.runs.specs.Steps.{Step, held};
 ghost use Rattle.runs.specs.declared.request.Design.TheVariants.{Draft as ADraft, Framed as AFramed};
-ghost use Rattle.runs.specs.declared.request.Request.TheVariants.{Frame, Offer, Reopen, Encode, Check, Invert};
+ghost use Rattle.runs.specs.declared.request.Request.TheVariants.{Reopen};
 
 use crate::request::{Answer, Design, Request};
 use design::draft::Draft;
+use design::fault::{DesignFault, HandedBack};
 use design::framed::Framed;
 use fields::field::Field;
 use link::calls::{check, encode, invert};
@@ -16,60 +18,13 @@ pub(crate) struct Stepped<F: Drop> {
     pub answer: Answer<F>,
 }
 
-// Frames a draft.
-fn frame_draft<F: Field>(
-    draft: Draft,
-    generators: &[F],
-    frame: &mut [F],
-    mut work: Vec<F>,
-) -> Stepped<F>
-    ensures { Step F.ops F.member (λ x. F.number (F.member x)) F.order (Frame work) (held (ADraft draft) generators.now frame.old) result.answer (held result.design generators.now frame.new) }
+// The design that frame or offer leaves, with its answer: refused, the draft is back.
+fn settle(made: Result<Framed, HandedBack<Draft>>) -> (Design, Result<(), DesignFault>)
+    ensures { MatchResult made (λ x. (result.0 ≡ AFramed x) × (result.1 ≡ Granted tt)) (λ e. (result.0 ≡ ADraft e.design) × (result.1 ≡ Refused e.fault)) }
 {
-    match draft.frame(generators, frame, &mut work) {
-        Ok(framed) => Stepped {
-            design: Design::Framed(framed),
-            answer: Answer::Frame {
-                answer: Ok(()),
-                work,
-            },
-        },
-        Err(back) => Stepped {
-            design: Design::Draft(back.design),
-            answer: Answer::Frame {
-                answer: Err(back.fault),
-                work,
-            },
-        },
-    }
-}
-
-// Offers a draft columns that were made elsewhere.
-fn offer_draft<F: Field>(
-    draft: Draft,
-    generators: &[F],
-    offered: Vec<F>,
-    frame: &mut [F],
-    mut work: Vec<F>,
-) -> Stepped<F>
-    ensures { Step F.ops F.member (λ x. F.number (F.member x)) F.order (Offer offered work) (held (ADraft draft) generators.now frame.old) result.answer (held result.design generators.now frame.new) }
-{
-    match draft.offer(generators, &offered, frame, &mut work) {
-        Ok(framed) => Stepped {
-            design: Design::Framed(framed),
-            answer: Answer::Offer {
-                answer: Ok(()),
-                offered,
-                work,
-            },
-        },
-        Err(back) => Stepped {
-            design: Design::Draft(back.design),
-            answer: Answer::Offer {
-                answer: Err(back.fault),
-                offered,
-                work,
-            },
-        },
+    match made {
+        Ok(framed) => (Design::Framed(framed), Ok(())),
+        Err(back) => (Design::Draft(back.design), Err(back.fault)),
     }
 }
 
@@ -90,8 +45,24 @@ fn on_draft<F: Field>(
                 answer,
             }
         }
-        Request::Frame { work } => frame_draft(draft, generators, frame, work),
-        Request::Offer { offered, work } => offer_draft(draft, generators, offered, frame, work),
+        Request::Frame { mut work } => {
+            let (design, answer) = settle(draft.frame(generators, frame, &mut work));
+            Stepped {
+                design,
+                answer: Answer::Frame { answer, work },
+            }
+        }
+        Request::Offer { offered, mut work } => {
+            let (design, answer) = settle(draft.offer(generators, &offered, frame, &mut work));
+            Stepped {
+                design,
+                answer: Answer::Offer {
+                    answer,
+                    offered,
+                    work,
+                },
+            }
+        }
         other => Stepped {
             design: Design::Draft(draft),
             answer: Answer::NotAdmitted(other),
@@ -115,57 +86,6 @@ fn reopen_framed<F: Field>(framed: Framed, frame: &mut [F]) -> Stepped<F>
     }
 }
 
-// Encodes a message.
-fn encode_message<F: Field>(
-    framed: Framed,
-    generators: &[F],
-    message: Vec<F>,
-    mut block: Vec<F>,
-) -> Stepped<F>
-    ensures { (f : _) → Step F.ops F.member (λ x. F.number (F.member x)) F.order (Encode message block) (held (AFramed framed) generators.now f) result.answer (held result.design generators.now f) }
-{
-    let answer = encode(&framed, generators, &message, &mut block);
-    Stepped {
-        design: Design::Framed(framed),
-        answer: Answer::Encode {
-            answer,
-            message,
-            block,
-        },
-    }
-}
-
-// Checks a block.
-fn check_block<F: Field>(framed: Framed, frame: &[F], block: Vec<F>) -> Stepped<F>
-    ensures { (g : _) → Step F.ops F.member (λ x. F.number (F.member x)) F.order (Check block) (held (AFramed framed) g frame.now) result.answer (held result.design g frame.now) }
-{
-    let answer = check(&framed, frame, &block);
-    Stepped {
-        design: Design::Framed(framed),
-        answer: Answer::Check { answer, block },
-    }
-}
-
-// Inverts a block.
-fn invert_block<F: Field>(
-    framed: Framed,
-    frame: &[F],
-    block: Vec<F>,
-    mut message: Vec<F>,
-) -> Stepped<F>
-    ensures { (g : _) → Step F.ops F.member (λ x. F.number (F.member x)) F.order (Invert block message) (held (AFramed framed) g frame.now) result.answer (held result.design g frame.now) }
-{
-    let answer = invert(&framed, frame, &block, &mut message);
-    Stepped {
-        design: Design::Framed(framed),
-        answer: Answer::Invert {
-            answer,
-            block,
-            message,
-        },
-    }
-}
-
 // Performs a request on a framed design.
 fn on_framed<F: Field>(
     framed: Framed,
@@ -175,15 +95,27 @@ fn on_framed<F: Field>(
 ) -> Stepped<F>
     ensures { Step F.ops F.member (λ x. F.number (F.member x)) F.order request (held (AFramed framed) generators.now frame.old) result.answer (held result.design generators.now frame.new) }
 {
-    match request {
-        Request::Reopen => reopen_framed(framed, frame),
-        Request::Encode { message, block } => encode_message(framed, generators, message, block),
-        Request::Check { block } => check_block(framed, frame, block),
-        Request::Invert { block, message } => invert_block(framed, frame, block, message),
-        other => Stepped {
-            design: Design::Framed(framed),
-            answer: Answer::NotAdmitted(other),
+    let answer = match request {
+        Request::Reopen => return reopen_framed(framed, frame),
+        Request::Encode { message, mut block } => Answer::Encode {
+            answer: encode(&framed, generators, &message, &mut block),
+            message,
+            block,
         },
+        Request::Check { block } => Answer::Check {
+            answer: check(&framed, frame, &block),
+            block,
+        },
+        Request::Invert { block, mut message } => Answer::Invert {
+            answer: invert(&framed, frame, &block, &mut message),
+            block,
+            message,
+        },
+        other => Answer::NotAdmitted(other),
+    };
+    Stepped {
+        design: Design::Framed(framed),
+        answer,
     }
 }
 
