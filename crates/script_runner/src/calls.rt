@@ -2,6 +2,7 @@
 use crate::desk::Desk;
 use crate::elements::{bytes, elements, zeros};
 use crate::offered::offered;
+use crate::sizes::{CARD, WORK};
 use crate::stopped::{Reason, Stopped};
 use crate::text::{BytesText, FrameText, GeneratorsText, PolynomialText, SymbolsText};
 use cards::read::read_card;
@@ -131,7 +132,7 @@ fn put<F: Field>(
 }
 
 fn frame<F: Field>(heap: Global, desk: &mut Desk<F>) -> Result<String, Stopped> {
-    let work = zeros(heap, 4521)?;
+    let work = zeros(heap, WORK)?;
     ask(heap, desk, Request::Frame { work })
 }
 
@@ -170,7 +171,7 @@ fn invert<F: Field>(
 }
 
 fn card<F: Field>(heap: Global, desk: &Desk<F>) -> Result<String, Stopped> {
-    let mut buffer = [0u8; 555];
+    let mut buffer = [0u8; CARD];
     let length = write_card(desk.draft()?, &desk.generators, &mut buffer)?;
     let text = BytesText(buffer.get(0..length).unwrap_or(&buffer));
     Ok(format!(in heap; "card{text}")?)
@@ -182,7 +183,7 @@ fn offer<F: Field>(
     columns: &[Vec<Vec<u32>>],
 ) -> Result<String, Stopped> {
     let offered = offered(heap, columns)?;
-    let work = zeros(heap, 4521)?;
+    let work = zeros(heap, WORK)?;
     ask(heap, desk, Request::Offer { offered, work })
 }
 

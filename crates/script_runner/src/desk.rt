@@ -1,5 +1,6 @@
 // The tables of one field, and the design that stands in them.
 use crate::elements::zeros;
+use crate::sizes::{FRAME, GENERATORS};
 use crate::stopped::Reason;
 use design::draft::Draft;
 use design::framed::Framed;
@@ -19,8 +20,8 @@ impl<F: Field> Desk<F> {
     pub fn new(heap: Global) -> Result<Desk<F>, AllocError> {
         Ok(Desk {
             design: None,
-            generators: zeros(heap, 136)?,
-            frame: zeros(heap, 1105)?,
+            generators: zeros(heap, GENERATORS)?,
+            frame: zeros(heap, FRAME)?,
         })
     }
 

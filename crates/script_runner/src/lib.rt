@@ -7,5 +7,6 @@ mod elements;
 pub mod input;
 mod offered;
 pub mod run;
+mod sizes;
 mod stopped;
 mod text;

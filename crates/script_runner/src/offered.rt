@@ -1,5 +1,6 @@
 // The columns of an offer as a table.
 use crate::elements::zeros;
+use crate::sizes::{COLUMNS, GENERATORS, POLYNOMIAL};
 use crate::stopped::Stopped;
 use fields::fault::FieldFault;
 use fields::field::Field;
@@ -7,7 +8,7 @@ use std::alloc::Global;
 
 // Whether a column has at most 8 components of at most 17 coefficients.
 fn column_fits(column: &[Vec<u32>]) -> bool {
-    column.len() <= 8 && column.iter().all(|component| component.len() <= 17)
+    column.len() <= 8 && column.iter().all(|component| component.len() <= POLYNOMIAL)
 }
 
 // Whether there are at most 8 columns, and each fits.
@@ -29,7 +30,7 @@ fn write_component<F: Field>(table: &mut [F], codes: &[u32]) -> Result<(), Field
 
 // Writes a column.
 fn write_column<F: Field>(table: &mut [F], column: &[Vec<u32>]) -> Result<(), FieldFault> {
-    let mut parts = table.chunks_mut(17);
+    let mut parts = table.chunks_mut(POLYNOMIAL);
     for component in column {
         write_component(parts.next().unwrap_or(&mut []), component)?;
     }
@@ -38,7 +39,7 @@ fn write_column<F: Field>(table: &mut [F], column: &[Vec<u32>]) -> Result<(), Fi
 
 // Writes the columns, one behind the other.
 fn write_columns<F: Field>(table: &mut [F], columns: &[Vec<Vec<u32>>]) -> Result<(), FieldFault> {
-    let mut parts = table.chunks_mut(136);
+    let mut parts = table.chunks_mut(GENERATORS);
     for column in columns {
         write_column(parts.next().unwrap_or(&mut []), column)?;
     }
@@ -47,7 +48,11 @@ fn write_columns<F: Field>(table: &mut [F], columns: &[Vec<Vec<u32>>]) -> Result
 
 // The offered table. Columns that do not fit give a table that is one too long, which the call refuses.
 pub fn offered<F: Field>(heap: Global, columns: &[Vec<Vec<u32>>]) -> Result<Vec<F>, Stopped> {
-    let length = if columns_fit(columns) { 1088 } else { 1089 };
+    let length = if columns_fit(columns) {
+        COLUMNS
+    } else {
+        COLUMNS + 1
+    };
     let mut table = zeros(heap, length)?;
     write_columns(&mut table, columns)?;
     Ok(table)

@@ -9,7 +9,7 @@ use std::alloc::{AllocError, Global};
 use tones::Tone;
 use towers::{Byte, TonePair};
 
-// The tables of the field that the script speaks of.
+// The tables of the field that the script speaks of. An enum, since a function that hands out a `dyn` is not admitted.
 #[derive(Drop)]
 pub enum Place {
     Tones(Desk<Tone>),

@@ -1,4 +1,5 @@
 // What is printed of the answers.
+use crate::sizes::{COLUMNS, FRAME, POLYNOMIAL};
 use design::framed::Framed;
 use fields::field::Field;
 use std::fmt;
@@ -16,7 +17,7 @@ impl fmt::Display for BytesText<'_> {
     }
 }
 
-// The codes of symbols, with a blank before each.
+// The codes of symbols, with a blank before each. A byte is printed as it stands and is no element of a field, so the two texts share no trait.
 #[derive(Drop)]
 pub struct SymbolsText<'a, F: Field>(pub &'a [F]);
 
@@ -77,7 +78,7 @@ pub struct FrameText<'a, F: Field> {
 
 impl<F: Field> fmt::Display for FrameText<'_, F> {
     fn fmt<W: fmt::Write>(&self, f: &mut fmt::Formatter<W>) -> fmt::Result {
-        if let Some(coefficients) = self.frame.get(1088..1105) {
+        if let Some(coefficients) = self.frame.get(COLUMNS..FRAME) {
             let divisor = PolynomialText(coefficients);
             write!(f, "\ndivisor: {divisor}")?;
         }
@@ -102,7 +103,7 @@ pub struct GeneratorsText<'a, F: Field> {
 
 impl<F: Field> fmt::Display for GeneratorsText<'_, F> {
     fn fmt<W: fmt::Write>(&self, f: &mut fmt::Formatter<W>) -> fmt::Result {
-        for (i, coefficients) in self.generators.chunks(17).take(self.n).enumerate() {
+        for (i, coefficients) in self.generators.chunks(POLYNOMIAL).take(self.n).enumerate() {
             let newline = if i == 0 { "" } else { "\n" };
             let polynomial = PolynomialText(coefficients);
             write!(f, "{newline}generator {i}: {polynomial}")?;

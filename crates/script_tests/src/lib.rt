@@ -26,25 +26,22 @@ mod tests {
     }
 
     fn is_blank(heap: Global, line: &[u8]) -> Result<bool, AllocError> {
-        match read_line(heap, line)? {
-            Line::Blank => Ok(true),
-            _ => Ok(false),
-        }
+        Ok(matches!(read_line(heap, line)?, Line::Blank))
     }
 
     // The numbers of a put.
-    fn put(heap: Global, line: &[u8]) -> Result<(u32, u32, u32), AllocError> {
+    fn put(heap: Global, line: &[u8]) -> Result<Option<(u32, u32, u32)>, AllocError> {
         match read_line(heap, line)? {
-            Line::Call(Call::Put { i, power, code }) => Ok((i, power, code)),
-            _ => Ok((7, 7, 7)),
+            Line::Call(Call::Put { i, power, code }) => Ok(Some((i, power, code))),
+            _ => Ok(None),
         }
     }
 
     // The numbers of a message.
-    fn encoded(heap: Global, line: &[u8]) -> Result<Option<Vec<u32>>, AllocError> {
+    fn encoded(heap: Global, line: &[u8]) -> Result<Vec<u32>, Fail> {
         match read_line(heap, line)? {
-            Line::Call(Call::Encode { message }) => Ok(Some(message)),
-            _ => Ok(None),
+            Line::Call(Call::Encode { message }) => Ok(message),
+            _ => Err(Fail::new("a message was expected")),
         }
     }
 
@@ -108,18 +105,18 @@ mod tests {
     }
 
     // How many columns an offer has.
-    fn offered(heap: Global, line: &[u8]) -> Result<usize, AllocError> {
+    fn offered(heap: Global, line: &[u8]) -> Result<Option<usize>, AllocError> {
         match read_line(heap, line)? {
-            Line::Call(Call::Offer { columns }) => Ok(columns.len()),
-            _ => Ok(0),
+            Line::Call(Call::Offer { columns }) => Ok(Some(columns.len())),
+            _ => Ok(None),
         }
     }
 
     #[test]
     fn offers(rt: HostRuntime) -> Result<(), Fail> {
         let heap = rt.alloc();
-        assert_eq!(rt; offered(heap, b"offer 1 1,30 | 30,30 0,0,1")?, 2);
-        assert_eq!(rt; offered(heap, b"offer 0")?, 1);
+        assert_eq!(rt; offered(heap, b"offer 1 1,30 | 30,30 0,0,1")?, Some(2));
+        assert_eq!(rt; offered(heap, b"offer 0")?, Some(1));
         assert_eq!(rt; unfit(heap, b"offer")?, Some(Keyword::Offer));
         assert_eq!(rt; unfit(heap, b"offer 1 | | 2")?, Some(Keyword::Offer));
         assert_eq!(rt; unfit(heap, b"offer | 1")?, Some(Keyword::Offer));
@@ -134,22 +131,17 @@ mod tests {
     #[test]
     fn calls(rt: HostRuntime) -> Result<(), Fail> {
         let heap = rt.alloc();
-        assert_eq!(rt; put(heap, b"\tput  1 2 3 # a comment")?, (1, 2, 3));
-        assert_eq!(rt; put(heap, b"put 1 2 99999999999")?, (1, 2, 4294967295));
+        assert_eq!(rt; put(heap, b"\tput  1 2 3 # a comment")?, Some((1, 2, 3)));
+        assert_eq!(rt;
+            put(heap, b"put 1 2 99999999999")?,
+            Some((1, 2, 4294967295))
+        );
         assert_eq!(rt;
             field(heap, b"field tone-pairs\r")?,
             Some(FieldName::TonePairs)
         );
-        match encoded(heap, b"encode")? {
-            Some(message) => assert!(rt; message.is_empty()),
-            None => return Err(Fail::new("a message was expected")),
-        }
-        match encoded(heap, b"encode 3 1")? {
-            Some(message) => {
-                assert!(rt; message.len() == 2);
-                Ok(())
-            },
-            None => Err(Fail::new("a message was expected")),
-        }
+        assert!(rt; encoded(heap, b"encode")?.is_empty());
+        assert!(rt; encoded(heap, b"encode 3 1")?.len() == 2);
+        Ok(())
     }
 }
