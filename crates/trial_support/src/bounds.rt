@@ -81,8 +81,8 @@ pub struct Bounds {
     pub degree: usize,
     // The rank of the lists up to that degree: how many places are pivotal.
     pub rank: usize,
-    // The least degrees of the columns, zero from n on.
-    pub degrees: [usize; GENERATORS],
+    // The least degrees of the columns, absent from n on.
+    pub degrees: [Option<usize>; GENERATORS],
 }
 
 // The ranks of the lists up to each power, and the polynomial of least degree among all combinations, which is the divisor.
@@ -129,10 +129,18 @@ fn check_degree(within: &[usize; POWERS], j: usize) -> usize {
 }
 
 // The least degrees of the columns, by that of the first and by how many check columns have at most each degree.
-fn column_degrees(n: usize, first: usize, within: &[usize; POWERS]) -> [usize; GENERATORS] {
-    let mut degrees = [first, 0, 0, 0, 0, 0, 0, 0];
-    for (j, degree) in degrees.iter_mut().enumerate().take(n).skip(1) {
-        *degree = check_degree(within, j);
+fn column_degrees(
+    n: usize,
+    first: Option<usize>,
+    within: &[usize; POWERS],
+) -> [Option<usize>; GENERATORS] {
+    let mut degrees = [None; GENERATORS];
+    for (j, degree) in degrees.iter_mut().enumerate().take(n) {
+        *degree = if j == 0 {
+            first
+        } else {
+            Some(check_degree(within, j))
+        };
     }
     degrees
 }
@@ -142,12 +150,12 @@ pub fn bound<F: Field>(row: &Row) -> Bounds {
     let (ranks, divisor) = ranks::<F>(row);
     let divisor_degree = top_of(&divisor).unwrap_or(0);
     let degree = row.degree().unwrap_or(0).saturating_sub(divisor_degree);
-    let first = least_bezout::<F>(row, divisor).unwrap_or(POWERS);
+    let first = least_bezout::<F>(row, divisor);
     Bounds {
         divisor,
         divisor_degree,
         degree,
-        rank: ranks.get(degree).map_or(0, |rank| *rank),
+        rank: ranks.get(degree).copied().unwrap_or(0),
         degrees: column_degrees(row.n, first, &columns_within(row.n, &ranks)),
     }
 }

@@ -11,7 +11,7 @@ fn terms(list: &[u16]) -> u8 {
     u8::try_from(count).unwrap_or(u8::MAX)
 }
 
-// Appends the number of the first record of each polynomial, 0 where it is zero, as the layout has it.
+// Appends the heads: for each polynomial the number of its first record, 0 where it is zero.
 fn push_heads(card: &mut Vec<u8>, row: &Row) -> Result<(), AllocError> {
     let mut number = 1u8;
     for polynomial in row.polynomials() {
@@ -26,7 +26,7 @@ fn push_heads(card: &mut Vec<u8>, row: &Row) -> Result<(), AllocError> {
 fn push_chain(card: &mut Vec<u8>, polynomial: &[u16], first: u8) -> Result<(), AllocError> {
     let mut next = first;
     let mut left = terms(polynomial);
-    for (power, code) in (0u8..17).zip(polynomial) {
+    for (power, code) in (0u8..).zip(polynomial) {
         if *code != 0 {
             next = next.saturating_add(1);
             left = left.saturating_sub(1);
@@ -52,7 +52,7 @@ pub fn card_of<F: Field>(heap: Global, row: &Row) -> Result<Vec<u8>, AllocError>
 
 // The byte at a place, 0 past the end.
 fn byte(card: &[u8], place: usize) -> u8 {
-    card.get(place).map_or(0, |x| *x)
+    card.get(place).copied().unwrap_or(0)
 }
 
 // The place of the record that the link at a place leads to, absent where it is zero.

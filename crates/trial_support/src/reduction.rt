@@ -47,7 +47,7 @@ impl Basis {
         }
     }
 
-    // Reduces each vector once at its leading place; answers whether any could be.
+    // Reduces each vector once at its leading place; answers whether any could be. By number, since the others of the array reduce it.
     fn reduce_once<F: Field>(&mut self) -> bool {
         let mut any = false;
         for i in 0..GENERATORS {
@@ -80,6 +80,7 @@ impl Basis {
         }
     }
 
+    // By number, since the others of the array reduce each.
     pub fn reduce_tails<F: Field>(&mut self) {
         for i in 0..GENERATORS {
             self.reduce_tail::<F>(i);

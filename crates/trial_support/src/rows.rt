@@ -55,12 +55,9 @@ impl Row {
         }
     }
 
-    // How many of the polynomials are not zero.
-    pub fn nonzero(&self) -> usize {
-        self.polynomials()
-            .iter()
-            .filter(|polynomial| top_of(*polynomial).is_some())
-            .count()
+    // Whether every polynomial is zero.
+    pub fn is_zero(&self) -> bool {
+        self.degree().is_none()
     }
 
     // Whether polynomial i is the only one that is not zero.

@@ -25,7 +25,7 @@ pub fn component_of(place: usize) -> usize {
 // Copies the powers of a component, from those of a vector that are handed in.
 fn copy_component(part: &mut [u16], powers: &[u16], i: usize) {
     for (code, power) in part.iter_mut().zip(powers.chunks(WIDTH)) {
-        *code = power.get(i).map_or(0, |x| *x);
+        *code = power.get(i).copied().unwrap_or(0);
     }
 }
 
@@ -63,7 +63,7 @@ impl Vector {
     }
 
     pub fn at(&self, place: usize) -> u16 {
-        self.cells.get(place).map_or(0, |code| *code)
+        self.cells.get(place).copied().unwrap_or(0)
     }
 
     // Whether the product is not zero.

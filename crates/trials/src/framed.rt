@@ -9,6 +9,9 @@ use trial_support::rows::Row;
 use trial_support::sizes::{COLUMNS, GENERATORS, LENGTH, POWERS};
 use trial_support::solver::solve;
 
+// How many columns, and components of each, are asked for: one more than there can be.
+const TRIED: usize = GENERATORS + 1;
+
 // Whether a frame is right by all routes.
 pub fn frame_agrees<F: Field>(row: &Row, framed: &Framed, frame: &[F]) -> bool {
     let bounds = bound::<F>(row);
@@ -30,13 +33,13 @@ pub fn numbers_agree(row: &Row, framed: &Framed, bounds: &Bounds) -> bool {
         && degrees
             .iter()
             .zip(bounds.degrees.iter())
-            .all(|(kept, least)| usize::from(*kept) == *least)
+            .all(|(kept, least)| usize::from(*kept) == least.unwrap_or(0))
 }
 
 // Whether the columns, as they stand in the table, have their least degrees.
 fn degrees_agree<F: Field>(frame: &[F], bounds: &Bounds) -> bool {
     let mut degrees = bounds.degrees.iter().enumerate();
-    degrees.all(|(j, least)| degree_of(GENERATORS, column(frame, j)).unwrap_or(0) == *least)
+    degrees.all(|(j, least)| degree_of(GENERATORS, column(frame, j)) == *least)
 }
 
 // Whether a frame table ends with the divisor.
@@ -68,7 +71,7 @@ fn component_agrees<F: Field>(framed: &Framed, frame: &[F], i: usize, j: usize) 
 
 // Whether all components of all columns, and none past them, are handed out.
 fn components_agree<F: Field>(framed: &Framed, frame: &[F]) -> bool {
-    (0..81).all(|place| component_agrees(framed, frame, place % 9, place / 9))
+    (0..TRIED * TRIED).all(|place| component_agrees(framed, frame, place % TRIED, place / TRIED))
 }
 
 // Whether a row that is all zero is refused with 6, and the frame is left as it was.

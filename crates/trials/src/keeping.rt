@@ -5,8 +5,8 @@ use cards::read::read_card;
 use cards::write::write_card;
 use design::draft::Draft;
 use fields::field::Field;
-use std::alloc::{AllocError, Global};
-use trial_support::cards::{card_of, meaning_of};
+use std::alloc::AllocError;
+use trial_support::cards::meaning_of;
 use trial_support::draws::Draws;
 use trial_support::faults::Fault;
 use trial_support::rows::Row;
@@ -92,14 +92,12 @@ fn damage_byte<F: Field, V: FnMut(u32) -> u32>(
     tally
 }
 
-// Reads a row's card as it is, cut at every length, with a byte too many, and with each byte damaged.
+// Reads a card as it is, cut at every length, with a byte too many, and with each byte damaged.
 pub fn try_card<F: Field>(
-    heap: Global,
     draws: &mut Draws,
-    row: &Row,
+    mut card: Vec<u8>,
     table: &mut [F],
 ) -> Result<Tally, AllocError> {
-    let mut card = card_of::<F>(heap, row)?;
     let mut tally = Tally::default();
     let length = card.len();
     for place in 0..length {

@@ -151,16 +151,21 @@ fn card_fault(bytes: &[u8]) -> Option<Fault> {
         .map(|fault| Fault::of(&fault))
 }
 
-// Cards that are granted, and each refusal that a card of less than two records meets.
+// Cards that are granted, and each refusal that comes before any chain is walked.
 fn try_heads() -> Tally {
     let mut tally = Tally::default();
-    tally.note(card_fault(&[1, 2, 2, 1, 0, 0, 30, 0, 2, 16, 1, 0, 0]).is_none());
-    tally.note(card_fault(&[1, 2, 0, 0, 0]).is_none());
-    tally.note(card_fault(&[1, 2]) == Some(Fault::new(13, 0)));
-    tally.note(card_fault(&[1, 2, 0, 0]) == Some(Fault::new(13, 0)));
-    tally.note(card_fault(&[2, 2, 0, 0, 0]) == Some(Fault::new(14, 0)));
-    tally.note(card_fault(&[1, 1, 0, 0]) == Some(Fault::new(2, 0)));
-    tally.note(card_fault(&[1, 9, 0, 0, 0, 0, 0, 0, 0, 0, 0, 0]) == Some(Fault::new(2, 0)));
+    let cards: [(&[u8], Option<u8>); 7] = [
+        (&[1, 2, 2, 1, 0, 0, 30, 0, 2, 16, 1, 0, 0], None),
+        (&[1, 2, 0, 0, 0], None),
+        (&[1, 2], Some(13)),
+        (&[1, 2, 0, 0], Some(13)),
+        (&[2, 2, 0, 0, 0], Some(14)),
+        (&[1, 1, 0, 0], Some(2)),
+        (&[1, 9, 0, 0, 0, 0, 0, 0, 0, 0, 0, 0], Some(2)),
+    ];
+    for (bytes, number) in cards {
+        tally.note(card_fault(bytes) == number.map(|number| Fault::new(number, 0)));
+    }
     tally
 }
 

@@ -130,7 +130,7 @@ impl<F: Field + Clone + Drop> Trials<F> {
         let table = self.tables.generators.as_mut_slice();
         self.counts
             .read
-            .add(try_card(self.heap, &mut self.draws, row, table)?);
+            .add(try_card(&mut self.draws, card, table)?);
         Ok(())
     }
 
@@ -138,7 +138,7 @@ impl<F: Field + Clone + Drop> Trials<F> {
     fn try_shape(&mut self, shape: Shape, rows: u32) -> Result<(), AllocError> {
         for number in 0..rows {
             let row = draw_row::<F>(&mut self.draws, shape);
-            if row.nonzero() == 0 {
+            if row.is_zero() {
                 self.counts
                     .empty
                     .note(refusal_agrees(&row, &mut self.tables));
