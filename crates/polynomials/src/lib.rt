@@ -28,7 +28,7 @@ pub fn multiply_into<F: Field>(target: &mut [F], left: &[F], right: &[F])
     }
 }
 
-// Takes away the multiple of a divisor of degree e, shifted by a power, that meets the coefficient above its own leading one, and answers its ratio.
+// Takes away the multiple of a divisor of degree e by s^power that meets the coefficient of s^(power + e), and answers its ratio.
 fn cancel<F: Field>(target: &mut [F], power: usize, divisor: &[F], e: usize, inverse: F) -> F
     requires room { power + e < length target.old }
     requires degree { Degree F.ops (at F.ops F.member divisor.now) e }
