@@ -48,7 +48,7 @@ impl<'a, F: Field> Steps<'a, F> {
 
     // Writes the numbers of the step of a reduced column and its pivot behind those of the steps found so far.
     pub fn record_step(&mut self, column: &[F], pivot: Pivot<F>)
-        requires room { (self.old.rank < self.old.rows) × ((length column.now ≡ self.old.rows) × (pivot.row < self.old.rows)) }
+        requires room { (self.old.rows * self.old.rank + self.old.rows ≤ length self.old.factors.now) × ((length column.now ≡ self.old.rows) × (pivot.row < self.old.rows)) }
         ensures here { column_at F.ops F.member self.old.rows self.new.factors.now self.old.rank ≡ write pivot.row (F.member pivot.inverse) (at F.ops F.member column.now) }
         ensures others { (k : ℕ) → k < self.old.rows * self.old.rank → at F.ops F.member self.new.factors.now k ≡ at F.ops F.member self.old.factors.now k }
         ensures kept { (self.new.rows ≡ self.old.rows) × ((self.new.rank ≡ self.old.rank) × (self.new.pivots.now ≡ self.old.pivots.now)) }

@@ -7,24 +7,29 @@ ghost use Rattle.scan.specs.Columns.{cell, AtPlaces, CheckAt, Rising};
 use crate::row::Row;
 use fields::field::Field;
 use tables::cells::put;
+use tables::sizes::{COLUMNS, FRAME, GENERATORS, WIDTH};
 
 // Writes an element at the place q of column j.
 fn put_at<F: Field>(row: &Row<'_, F>, j: usize, q: usize, value: F, frame: &mut [F])
     requires column { j < 8 }
-    requires room { (q < row.now.n * 17) × (length frame.old ≡ 1105) }
+    requires room { (q < row.now.n * 17) × (length frame.old ≡ FRAME) }
     ensures here { at F.ops F.member frame.new (cell row.now.n j q) ≡ F.member value }
     ensures others { Kept F.ops F.member (cell row.now.n j q) 1 frame.old frame.new }
 {
-    put(frame, 136 * j + 17 * (q % row.n) + q / row.n, value);
+    put(
+        frame,
+        GENERATORS * j + WIDTH * (q % row.n) + q / row.n,
+        value,
+    );
 }
 
 // Writes the first entries of a list at the places of column j.
 pub fn write_at<F: Field>(row: &Row<'_, F>, j: usize, places: &[usize], list: &[F], frame: &mut [F])
     requires column { j < 8 }
-    requires room { (length places.now ≤ length list.now) × (length frame.old ≡ 1105) }
+    requires room { (length places.now ≤ length list.now) × (length frame.old ≡ FRAME) }
     requires rising { Rising row.now.n (length places.now) (entry_at places.now) }
     ensures written { AtPlaces F.ops F.member row.now.n j (length places.now) (entry_at places.now) (at F.ops F.member list.now) frame.old frame.new }
-    ensures behind { (k : ℕ) → 1088 ≤ k → at F.ops F.member frame.new k ≡ at F.ops F.member frame.old k }
+    ensures behind { (k : ℕ) → COLUMNS ≤ k → at F.ops F.member frame.new k ≡ at F.ops F.member frame.old k }
 {
     for (q, x) in places.iter().zip(list) {
         put_at(row, j, *q, *x, frame);
@@ -50,11 +55,11 @@ pub fn write_check<F: Field>(
     frame: &mut [F],
 )
     requires column { j < 8 }
-    requires room { (q < row.now.n * 17) × ((length places.now ≤ length column.old) × (length frame.old ≡ 1105)) }
+    requires room { (q < row.now.n * 17) × ((length places.now ≤ length column.old) × (length frame.old ≡ FRAME)) }
     requires rising { Rising row.now.n (length places.now) (entry_at places.now) }
     requires before { (t : ℕ) → t < length places.now → entry_at places.now t < q }
     ensures written { CheckAt F.ops F.member row.now.n j q (length places.now) (entry_at places.now) (λ t. F.ops.negative (at F.ops F.member column.old t)) frame.old frame.new }
-    ensures behind { (k : ℕ) → 1088 ≤ k → at F.ops F.member frame.new k ≡ at F.ops F.member frame.old k }
+    ensures behind { (k : ℕ) → COLUMNS ≤ k → at F.ops F.member frame.new k ≡ at F.ops F.member frame.old k }
 {
     negate_all(column);
     write_at(row, j, places, column, frame);

@@ -14,7 +14,7 @@ use crate::walk::Walk;
 use fields::field::Field;
 use frames::row::{DIVISOR, ROW};
 use tables::rows::{clear_part, copy_from};
-use tables::sizes::{COLUMNS, WIDTH};
+use tables::sizes::{COLUMNS, FRAME, WIDTH, WORK};
 
 mod columns;
 mod lists;
@@ -29,12 +29,12 @@ const FACTORS: usize = 1089;
 
 // Writes the frame columns of a row into a cleared frame, by way of two tables.
 fn scan<F: Field>(row: Row<'_, F>, factors: &mut [F], column: &mut [F], frame: &mut [F])
-    requires room { (length factors.old ≡ 1089) × ((length column.old ≡ suc (row.d + row.d)) × (length frame.old ≡ 1105)) }
+    requires room { (length factors.old ≡ FACTORS) × ((length column.old ≡ suc (row.d + row.d)) × (length frame.old ≡ FRAME)) }
     requires coprime { Combination F.ops row.n (generator_in F.ops F.member row.entries.now) (series F.ops).one }
-    requires cleared { (k : ℕ) → k < 1088 → at F.ops F.member frame.old k ≡ F.ops.zero }
+    requires cleared { (k : ℕ) → k < COLUMNS → at F.ops F.member frame.old k ≡ F.ops.zero }
     ensures columns { (p : ℕ → ℕ) × FrameColumns F.ops (row.entry.n - 1) row.entry.d (generator_in F.ops F.member row.entry.entries.now) p (column_in F.ops F.member frame.new) }
     ensures rest { (j i k : ℕ) → j < 8 → i < 8 → k < 17 → (j < row.entry.n → i < row.entry.n → ⊥) → at F.ops F.member frame.new (136 * j + 17 * i + k) ≡ F.ops.zero }
-    ensures behind { (k : ℕ) → 1088 ≤ k → at F.ops F.member frame.new k ≡ at F.ops F.member frame.old k }
+    ensures behind { (k : ℕ) → COLUMNS ≤ k → at F.ops F.member frame.new k ≡ at F.ops F.member frame.old k }
 {
     let mut pivots = [0usize; ROWS];
     let mut walk = Walk::new(row, factors, &mut pivots, column);
@@ -46,11 +46,11 @@ fn scan<F: Field>(row: Row<'_, F>, factors: &mut [F], column: &mut [F], frame: &
 // component i of column j at 136 j + 17 i + k, the divisor behind the columns, and zero elsewhere. The work table is left with any contents.
 pub fn write_frame<F: Field>(n: usize, d: usize, work: &mut [F], frame: &mut [F])
     requires sized { (0 < n) × ((n ≤ 8) × (d ≤ 16)) }
-    requires room { (length work.old ≡ 4521) × (length frame.old ≡ 1105) }
+    requires room { (length work.old ≡ WORK) × (length frame.old ≡ FRAME) }
     requires degree { VectorDegree F.ops n (quotient_in F.ops F.member work.old) d }
     requires coprime { Combination F.ops n (quotient_in F.ops F.member work.old) (series F.ops).one }
     ensures columns { (p : ℕ → ℕ) × FrameColumns F.ops (n - 1) d (quotient_in F.ops F.member work.old) p (column_in F.ops F.member frame.new) }
-    ensures divisor { poly_at F.ops F.member frame.new 1088 17 ≡ gcd_in F.ops F.member work.old }
+    ensures divisor { poly_at F.ops F.member frame.new COLUMNS 17 ≡ gcd_in F.ops F.member work.old }
     ensures rest { (j i k : ℕ) → j < 8 → i < 8 → k < 17 → (j < n → i < n → ⊥) → at F.ops F.member frame.new (136 * j + 17 * i + k) ≡ F.ops.zero }
 {
     clear_part(frame, 0, COLUMNS);

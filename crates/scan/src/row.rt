@@ -2,6 +2,7 @@
 ghost use Rattle.std.specs.Prelude.{◌≡◌, ℕ, ◌<◌, ◌≤◌, length};
 ghost use Rattle.algebra.specs.Divisors.{VectorDegree};
 ghost use Rattle.frames.specs.Rows.{generator_in};
+ghost use Rattle.tables.specs.declared.sizes.TheConstants.{GENERATORS};
 
 use fields::field::Field;
 
@@ -12,6 +13,6 @@ pub struct Row<'a, F: Field> {
     pub d: usize,
     pub entries: &'a [F],
     pub ghost sized: { (0 < n) × ((n ≤ 8) × (d ≤ 16)) },
-    pub ghost long: { length entries.now ≡ 136 },
+    pub ghost long: { length entries.now ≡ GENERATORS },
     pub ghost degree: { ∥ VectorDegree F.ops n (generator_in F.ops F.member entries.now) d ∥₁ },
 }

@@ -8,12 +8,13 @@ ghost use Rattle.tables.specs.Places.{at};
 ghost use Rattle.scan.specs.Columns.{column_in};
 ghost use Rattle.scan.specs.Walked.{mark_at, Walked};
 
-use crate::ROWS;
 use crate::columns::{write_at, write_check};
 use crate::lists::{write_list, write_unit};
 use crate::row::Row;
+use crate::{FACTORS, ROWS};
 use elimination::Steps;
 use fields::field::Field;
+use tables::sizes::{COLUMNS, FRAME};
 
 // How far a walk came: the steps of the pivotal places, these places in order, the classes of the basic places, and how many of these there are.
 // Each list is written into the column.
@@ -37,7 +38,7 @@ impl<'a, F: Field> Walk<'a, F> {
         pivots: &'a mut [usize],
         column: &'a mut [F],
     ) -> Walk<'a, F>
-        requires { (length factors.old ≡ 1089) × ((length pivots.old ≡ 33) × (length column.old ≡ suc (row.d + row.d))) }
+        requires { (length factors.old ≡ FACTORS) × ((length pivots.old ≡ ROWS) × (length column.old ≡ suc (row.d + row.d))) }
         ensures row { result.row ≡ row.entry }
         ensures none { (result.steps.rank ≡ 0) × (result.basics ≡ 0) }
         ensures unmarked { (i : ℕ) → i < 8 → mark_at result.found i ≡ false }
@@ -57,11 +58,11 @@ impl<'a, F: Field> Walk<'a, F> {
     // is the next basic place, and its check column is written.
     fn walk_place(&mut self, q: usize, frame: &mut [F])
         requires place { q < self.old.row.n * suc self.old.row.d }
-        requires room { length frame.old ≡ 1105 }
+        requires room { length frame.old ≡ FRAME }
         requires walked { Walked F.ops F.member self.old.row.n self.old.row.d self.old.steps.rows (generator_in F.ops F.member self.old.row.entries.now) q self.old.steps.rank self.old.basics self.old.steps.factors.now self.old.steps.pivots.now self.old.places self.old.found frame.old }
         ensures walked { Walked F.ops F.member self.old.row.n self.old.row.d self.new.steps.rows (generator_in F.ops F.member self.old.row.entries.now) (suc q) self.new.steps.rank self.new.basics self.new.steps.factors.now self.new.steps.pivots.now self.new.places self.new.found frame.new }
         ensures row { self.new.row ≡ self.old.row }
-        ensures behind { (k : ℕ) → 1088 ≤ k → at F.ops F.member frame.new k ≡ at F.ops F.member frame.old k }
+        ensures behind { (k : ℕ) → COLUMNS ≤ k → at F.ops F.member frame.new k ≡ at F.ops F.member frame.old k }
     {
         let class = q % self.row.n;
         if self.found[class] {
@@ -81,11 +82,11 @@ impl<'a, F: Field> Walk<'a, F> {
 
     // Walks all places of a row, in order, into a cleared frame.
     pub fn walk(&mut self, frame: &mut [F])
-        requires room { length frame.old ≡ 1105 }
+        requires room { length frame.old ≡ FRAME }
         requires walked { Walked F.ops F.member self.old.row.n self.old.row.d self.old.steps.rows (generator_in F.ops F.member self.old.row.entries.now) 0 self.old.steps.rank self.old.basics self.old.steps.factors.now self.old.steps.pivots.now self.old.places self.old.found frame.old }
         ensures walked { Walked F.ops F.member self.old.row.n self.old.row.d self.new.steps.rows (generator_in F.ops F.member self.old.row.entries.now) (self.old.row.n * suc self.old.row.d) self.new.steps.rank self.new.basics self.new.steps.factors.now self.new.steps.pivots.now self.new.places self.new.found frame.new }
         ensures row { self.new.row ≡ self.old.row }
-        ensures behind { (k : ℕ) → 1088 ≤ k → at F.ops F.member frame.new k ≡ at F.ops F.member frame.old k }
+        ensures behind { (k : ℕ) → COLUMNS ≤ k → at F.ops F.member frame.new k ≡ at F.ops F.member frame.old k }
     {
         for q in 0..self.row.n * (self.row.d + 1) {
             self.walk_place(q, frame);
@@ -94,12 +95,12 @@ impl<'a, F: Field> Walk<'a, F> {
 
     // Writes column 0, when all places of a row are walked: the multipliers whose sum of the pivotal lists is the unit list.
     pub fn write_first(&mut self, frame: &mut [F])
-        requires room { length frame.old ≡ 1105 }
+        requires room { length frame.old ≡ FRAME }
         requires walked { Walked F.ops F.member self.old.row.n self.old.row.d self.old.steps.rows (generator_in F.ops F.member self.old.row.entries.now) (self.old.row.n * suc self.old.row.d) self.old.steps.rank self.old.basics self.old.steps.factors.now self.old.steps.pivots.now self.old.places self.old.found frame.old }
         requires coprime { Combination F.ops self.old.row.n (generator_in F.ops F.member self.old.row.entries.now) (series F.ops).one }
         ensures columns { (p : ℕ → ℕ) × FrameColumns F.ops (self.old.row.n - 1) self.old.row.d (generator_in F.ops F.member self.old.row.entries.now) p (column_in F.ops F.member frame.new) }
         ensures rest { (j i k : ℕ) → j < 8 → i < 8 → k < 17 → (j < self.old.row.n → i < self.old.row.n → ⊥) → at F.ops F.member frame.new (136 * j + 17 * i + k) ≡ F.ops.zero }
-        ensures behind { (k : ℕ) → 1088 ≤ k → at F.ops F.member frame.new k ≡ at F.ops F.member frame.old k }
+        ensures behind { (k : ℕ) → COLUMNS ≤ k → at F.ops F.member frame.new k ≡ at F.ops F.member frame.old k }
     {
         let rank = self.steps.rank;
         write_unit(self.column);

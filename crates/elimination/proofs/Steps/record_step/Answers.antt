@@ -3,7 +3,7 @@ use borrow.Rule.Slice.PartMut.{put_mid}
 use Rattle.tables.specs.Places.{at}
 use Rattle.elimination.specs.Steps.{write, column_at, entry_at}
 use Rattle.elimination.proofs.Columns.{at_set}
-use Rattle.elimination.proofs.Tables.{row_room, columns_same, replaced_here, replaced_before}
+use Rattle.elimination.proofs.Tables.{columns_same, replaced_here, replaced_before}
 use Rattle.elimination.proofs.Valid.{steps_kept}
 use Rattle.elimination.proofs.Steps.record_step.Goals as goal
 
@@ -13,7 +13,7 @@ invariant_of-self-clause-valid g c =
     let s = c.args.self.now in
     let base = s.rows * s.rank in
     let step = set c.copy_from_slice.new.self c.args.pivot.row c.args.pivot.inverse in
-    let room : base + s.rows ≤ length s.factors.now = omega (arith, s.room, row_room s.rows s.rank s.rows c.requires.room.0) in
+    let room : base + s.rows ≤ length s.factors.now = c.requires.room.0 in
     let long : length step ≡ s.rows = rw length-set (omega (arith, c.copy_from_slice.ensures.len, ap length c.copy_from_slice.ensures.after, c.requires.room)) in
     steps_kept f.ops s.rows s.rank (column_at f.ops f.member s.rows s.factors.now) (column_at f.ops f.member s.rows (put_mid base (base + s.rows - base) s.factors.now step)) (entry_at s.pivots.now)
     (columns_same f.ops f.member s.rows s.rank s.factors.now (put_mid base (base + s.rows - base) s.factors.now step) (replaced_before f.ops f.member base s.rows s.factors.now step room long))
@@ -25,7 +25,7 @@ returns-clause-here g c =
     let s = c.args.self.now in
     let base = s.rows * s.rank in
     let copied = c.copy_from_slice.new.self in
-    let room : base + s.rows ≤ length s.factors.now = omega (arith, s.room, row_room s.rows s.rank s.rows c.requires.room.0) in
+    let room : base + s.rows ≤ length s.factors.now = c.requires.room.0 in
     let long : length copied ≡ s.rows = omega (arith, ap length c.copy_from_slice.ensures.after, c.requires.room) in
     sym (replaced_here f.ops f.member base s.rows s.factors.now (set copied c.args.pivot.row c.args.pivot.inverse) room (rw length-set long))
     ∙ at_set f.ops f.member copied c.args.pivot.row c.args.pivot.inverse (omega (arith, long, c.requires.room))
@@ -37,6 +37,6 @@ returns-clause-others g c =
     let s = c.args.self.now in
     let base = s.rows * s.rank in
     let step = set c.copy_from_slice.new.self c.args.pivot.row c.args.pivot.inverse in
-    let room : base + s.rows ≤ length s.factors.now = omega (arith, s.room, row_room s.rows s.rank s.rows c.requires.room.0) in
+    let room : base + s.rows ≤ length s.factors.now = c.requires.room.0 in
     let long : length step ≡ s.rows = rw length-set (omega (arith, ap length c.copy_from_slice.ensures.after, c.requires.room)) in
     replaced_before f.ops f.member base s.rows s.factors.now step room long

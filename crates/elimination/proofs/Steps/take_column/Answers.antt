@@ -3,6 +3,7 @@ use mathlib.Core.Logic.{∥∥₁_map}
 use Rattle.tables.specs.Places.{at}
 use Rattle.elimination.specs.Steps.{column_at, entry_at, IsPivot}
 use Rattle.elimination.proofs.Taking.{taken_sum, taken_pivotal, taken_steps, taken_reduces}
+use Rattle.elimination.proofs.Tables.{row_room}
 use Rattle.elimination.proofs.Valid.{rank_few, the_steps}
 use Rattle.elimination.proofs.Steps.take_column.Goals as goal
 
@@ -57,3 +58,11 @@ invariant_of-self-clause-valid g c =
     rw (r.ensures.kept.0, r.ensures.kept.1.0, r.ensures.kept.1.1, add-one)
     (∥∥₁_map s.valid (taken_steps f.ops f.member met.laws s.rows s.rank s.factors.now s.pivots.now c.args.column.now now c.requires c.reduce.ensures pivot.row pivot.inverse q
     r.new.self.factors.now r.ensures.here r.ensures.others less))
+
+pub record_step-requires : goal.record_step-requires
+record_step-requires g c =
+    let s = c.args.self.now in
+    let width : length c.reduce.new.column ≡ s.rows = omega (arith, c.requires, c.reduce.auto.column) in
+    let q = c.in-Some.ensures in
+    let less : s.rank < s.rows = omega (arith, q.low, q.within, width) in
+    record { room = (omega (arith, s.room, row_room s.rows s.rank s.rows less), (width, omega (arith, q.within, width))) }
