@@ -24,13 +24,10 @@ impl<'a, F: Field> Offer<'a, F> {
         ensures { at F.ops F.member product.new ≡ dot (series F.ops) self.now.n (generator_in F.ops F.member self.now.generators.now) (row_in F.ops F.member column.now 0) }
     {
         clear(product);
-        for i in 0..self.n {
+        let generators = &self.generators[..WIDTH * self.n];
+        for (i, generator) in generators.chunks_exact(WIDTH).enumerate() {
             let start = WIDTH * i;
-            multiply_into(
-                product,
-                &self.generators[start..start + WIDTH],
-                &column[start..start + WIDTH],
-            );
+            multiply_into(product, generator, &column[start..start + WIDTH]);
         }
     }
 
