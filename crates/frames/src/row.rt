@@ -69,6 +69,7 @@ fn divide_row<F: Field>(
     ensures rest { at F.ops F.member spare.new ≡ (series F.ops).zero }
 {
     for (i, generator) in generators[..WIDTH * n].chunks_exact(WIDTH).enumerate() {
+        // A proof knows nothing of what was written through `chunks_exact_mut`.
         let start = WIDTH * i;
         spare.copy_from_slice(generator);
         divide_exactly(spare, divisor, e, &mut row[start..start + WIDTH]);

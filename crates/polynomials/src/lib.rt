@@ -51,7 +51,7 @@ pub fn reduce<F: Field>(dividend: &mut [F], divisor: &[F], e: usize)
     }
 }
 
-// The same, with the quotient written into a cleared slice.
+// The same, with the quotient written into a cleared slice. The two loops share their step, and `reduce` has no place for a quotient.
 fn divide<F: Field>(dividend: &mut [F], divisor: &[F], e: usize, quotient: &mut [F])
     requires room { length dividend.old ≤ length quotient.old }
     requires degree { Degree F.ops (at F.ops F.member divisor.now) e }

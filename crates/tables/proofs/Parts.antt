@@ -43,10 +43,6 @@ module _ {F R : Type 0} (o : RingOps R) (member : F → R) where
         | no h ↦ poly_at_below xs base width k (omega arith) ∙ sym (b k (omega arith))
       ])
 
-  -- the places above a bound may be left out
-  pub poly_at_narrow : (xs : List F) (base n width : ℕ) → n ≤ width → Below o n (poly_at o member xs base width) → poly_at o member xs base n ≡ poly_at o member xs base width
-  poly_at_narrow xs base n width l b = poly_at_is xs base n (poly_at o member xs base width) b (λ k h. sym (poly_at_in xs base width k (omega arith)))
-
   -- a part apart from what was written is as it was
   pub poly_at_kept : (xs ys : List F) (base width other count : ℕ) → Kept o member base width xs ys → Apart base width other count → poly_at o member ys other count ≡ poly_at o member xs other count
   poly_at_kept xs ys base width other count keep apart =

@@ -13,6 +13,7 @@ pub mod sizes;
 pub fn clear<F: Field>(table: &mut [F])
     ensures { Cleared F.ops F.member table.new }
 {
+    // `fill` asks that a clone is the element, which is no law of a field.
     for x in table.iter_mut() {
         *x = F::zero();
     }

@@ -48,6 +48,7 @@ pub fn add_multiple<F: Field>(target: &mut [F], power: usize, factor: F, source:
     requires { power + length source.now ≤ length target.old }
     ensures { at F.ops F.member target.new ≡ (series F.ops).sum (at F.ops F.member target.old) (shift F.ops power (scaled F.ops (F.member factor) (at F.ops F.member source.now))) }
 {
+    // A proof knows nothing of what was written through `iter_mut` in a `zip`.
     for (k, y) in source.iter().enumerate() {
         let x = &mut target[power + k];
         *x = x.add(factor.multiply(*y));
