@@ -1,7 +1,7 @@
 // One step of elimination on a column.
 ghost use Rattle.std.specs.Prelude.{◌≡◌, ℕ, ◌+◌, ◌*◌, ◌<◌, ◌≤◌, length, MatchOption};
 ghost use Rattle.tables.specs.Places.{at};
-ghost use Rattle.elimination.specs.Steps.{step as after_step, reduced, column_at, entry_at, write, AreSteps, IsPivot};
+ghost use Rattle.elimination.specs.Steps.{step as after_step, column_at, IsPivot};
 
 use fields::field::Field;
 

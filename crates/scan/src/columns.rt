@@ -7,6 +7,7 @@ ghost use Rattle.scan.specs.Columns.{cell, AtPlaces, CheckAt, Rising};
 use crate::row::Row;
 use fields::field::Field;
 use tables::cells::put;
+use tables::sizes::{GENERATORS, WIDTH};
 
 // Writes an element at the place q of column j.
 fn put_at<F: Field>(row: &Row<'_, F>, j: usize, q: usize, value: F, frame: &mut [F])
@@ -15,7 +16,11 @@ fn put_at<F: Field>(row: &Row<'_, F>, j: usize, q: usize, value: F, frame: &mut 
     ensures here { at F.ops F.member frame.new (cell row.now.n j q) ≡ F.member value }
     ensures others { Kept F.ops F.member (cell row.now.n j q) 1 frame.old frame.new }
 {
-    put(frame, 136 * j + 17 * (q % row.n) + q / row.n, value);
+    put(
+        frame,
+        GENERATORS * j + WIDTH * (q % row.n) + q / row.n,
+        value,
+    );
 }
 
 // Writes the first entries of a list at the places of column j.

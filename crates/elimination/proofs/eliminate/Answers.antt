@@ -1,6 +1,6 @@
 use Rattle.std.proofs.Common.{◌≡◌, ◌+◌, ◌∙◌, subst, arith}
 use Rattle.elimination.specs.Steps.{column_at, entry_at}
-use Rattle.elimination.specs.Echelon.{Echelon, Relations}
+use Rattle.elimination.specs.Echelon.{Echelon}
 use Rattle.elimination.proofs.Whole.{Progress, progress_more}
 use Rattle.elimination.proofs.eliminate.Goals as goal
 
@@ -19,13 +19,9 @@ loop-q-preserved g c =
       progress = subst (λ k. Progress f.ops f.member k c.args.matrix.now (c.loop-q.q + 1) n.self.rank n.self.factors.now n.self.pivots.now n.places n.matrix) c.loop-q.invariant.rows next;
     }
 
-pub returns : goal.returns
-returns g c =
+pub returns-clause-echelon : goal.returns-clause-echelon
+returns-clause-echelon g c =
     let f = g.F.Field in
-    let all : c.loop-q.q ≡ c.args.columns = omega (arith, c.loop-q.auto, c.loop-q-test.false) in
-    let done = c.loop-q.invariant.progress in
     let s = c.loop-q.steps in
-    record {
-      echelon = subst (λ q. Echelon f.ops c.args.rows (column_at f.ops f.member c.args.rows c.args.matrix.now) q s.rank (entry_at c.loop-q.places)) all done.eliminated.echelon;
-      relations = subst (λ q. Relations f.ops c.args.rows (column_at f.ops f.member c.args.rows c.args.matrix.now) (column_at f.ops f.member c.args.rows c.loop-q.matrix) q s.rank (entry_at c.loop-q.places)) all done.relations;
-    }
+    let all : c.loop-q.q ≡ c.args.columns = omega (arith, c.loop-q.auto, c.loop-q-test.false) in
+    subst (λ q. Echelon f.ops c.args.rows (column_at f.ops f.member c.args.rows c.args.matrix.now) q s.rank (entry_at c.loop-q.places)) all c.loop-q.invariant.progress.eliminated.echelon
