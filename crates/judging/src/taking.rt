@@ -24,6 +24,7 @@ impl<'a, F: Field> Offer<'a, F> {
     {
         clear(frame);
         copy_from(work, DIVISOR, frame, COLUMNS, WIDTH);
+        // By number: a part stands at one place in both tables.
         for j in 0..self.n {
             copy_from(
                 self.offered,
