@@ -12,6 +12,7 @@ use fields::field::Field;
 use frames::row::{Degrees, divide_by_gcd};
 use scan::write_frame;
 use tables::clear;
+use tables::sizes::{FRAME, GENERATORS, WORK};
 
 pub mod packing;
 
@@ -26,7 +27,7 @@ pub struct Numbers {
 impl Numbers {
     // The numbers of the n columns of a frame table, by the degrees of the divided generators and of the divisor.
     pub fn of<F: Field>(n: usize, degrees: Degrees, frame: &[F]) -> Numbers
-        requires room { (n ≤ 8) × (length frame.now ≡ 1105) }
+        requires room { (n ≤ 8) × (length frame.now ≡ FRAME) }
         requires nonzero { (k : ℕ) → k < n → AllZero F.ops n (column_in F.ops F.member frame.now k) → ⊥ }
         ensures degrees { (result.degree ≡ degrees.row) × (result.divisor ≡ degrees.divisor) }
         ensures columns { DegreesFrom F.ops F.member n frame.now 0 result.columns }
@@ -47,7 +48,7 @@ pub fn frame_row<F: Field>(
     work: &mut [F],
 ) -> Option<Numbers>
     requires sized { (2 ≤ n) × (n ≤ 8) }
-    requires room { (length generators.now ≡ 136) × ((length frame.old ≡ 1105) × (length work.old ≡ 4521)) }
+    requires room { (length generators.now ≡ GENERATORS) × ((length frame.old ≡ FRAME) × (length work.old ≡ WORK)) }
     ensures answer { MatchOption result (AllZero F.ops n (generator_in F.ops F.member generators.now) × (frame.new ≡ frame.old)) (λ x. HoldsFrame F.ops F.member n generators.now frame.new x.degree x.divisor x.columns) }
     ensures cleared { Cleared F.ops F.member work.new }
 {

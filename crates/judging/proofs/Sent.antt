@@ -1,5 +1,5 @@
--- The product of a row with a column, one component at a time, and its comparison with a multiple of the divisor. Main results: dot_more, difference_zero,
--- zero_difference.
+-- The product of a row with a column, one component at a time, and its comparison with a multiple of a polynomial. Main results: dot_more, difference_zero,
+-- zero_difference, zero_tells.
 use Rattle.std.proofs.Common.{◌≡◌, ℕ, ◌+◌ as ◌plus◌, Bool, true, false, not, Option, Some, None, is_some, MatchOption, sym, ap, ◌∙◌, ap₂, add-one}
 use mathlib.Core.Path.{fun_ext}
 use Rattle.algebra.specs.Rings.{RingOps, RingLaws}
@@ -45,9 +45,6 @@ module _ {M : Type 0} (o : RingOps M) (L : RingLaws o) where
   zero_difference f g x e =
       fun_ext (λ k. ap₂ o.sum (ap (λ (t : ℕ → M). t k) e) (Sums.negative_product o L x (g k)) ∙ L.sum_negative (o.product x (g k)))
 
-  -- no multiple is zero, and the multiple by one is the divisor
-  pub scale_zero : (x : M) (g : ℕ → M) → x ≡ o.zero → scale o x g ≡ (series o).zero
-  scale_zero x g e = fun_ext (λ k. ap (λ t. o.product t (g k)) e ∙ Sums.zero_product o L (g k))
-
+  -- the multiple by one
   pub scale_one : (x : M) (g : ℕ → M) → x ≡ o.one → scale o x g ≡ g
   scale_one x g e = fun_ext (λ k. ap (λ t. o.product t (g k)) e ∙ Sums.one_product o L (g k))

@@ -3,6 +3,7 @@ ghost use Rattle.std.specs.Prelude.{◌≡◌, ℕ, ◌-◌, ◌<◌, ◌≤◌,
 ghost use Rattle.elimination.specs.Steps.{entry_at};
 ghost use Rattle.frames.specs.Rows.{Highest};
 ghost use Rattle.framing.specs.Framing.{column_in};
+ghost use Rattle.tables.specs.declared.sizes.TheConstants.{COLUMNS};
 ghost use Rattle.judging.specs.Answers.{Tells};
 ghost use Rattle.judging.specs.Columns.{check_degree, InOrder, NoHigher};
 
@@ -18,7 +19,7 @@ pub(crate) struct Graded<'a, F: Field> {
     pub(crate) degrees: [usize; 8],
     ghost low: { 2 ≤ n },
     ghost high: { n ≤ 8 },
-    ghost columns: { length offered.now ≡ 1088 },
+    ghost columns: { length offered.now ≡ COLUMNS },
     ghost bound: { (j : ℕ) → j < n → entry_at degrees j ≤ 16 },
 }
 

@@ -11,7 +11,7 @@ use crate::objection::Objection;
 use crate::offer::Offer;
 use fields::field::Field;
 use frames::row::{DIVISOR, Degrees, divide_by_gcd};
-use tables::sizes::WIDTH;
+use tables::sizes::{WIDTH, WORK};
 
 impl<'a, F: Field> Offer<'a, F> {
     // Asks about the degrees and the leading vectors of the columns, of which column 0 is not zero.
@@ -40,7 +40,7 @@ impl<'a, F: Field> Offer<'a, F> {
 
     // Judges the columns, and answers the degrees of the divided generators and of the divisor, which is left in the work table.
     pub(crate) fn judge(&self, work: &mut [F]) -> Result<Degrees, Objection>
-        requires { length work.old ≡ 4521 }
+        requires { length work.old ≡ WORK }
         ensures answer { MatchResult result (λ x. Passed F.ops F.member self.now.n self.now.generators.now self.now.offered.now work.new x.row x.divisor) (Objects F.ops self.now.n (self.now.n - 1) (generator_in F.ops F.member self.now.generators.now) (column_in F.ops F.member self.now.offered.now)) }
         ensures exact { MatchResult result (λ _. OptimalFor F.ops (self.now.n - 1) (generator_in F.ops F.member self.now.generators.now) (column_in F.ops F.member self.now.offered.now)) (λ _. OptimalFor F.ops (self.now.n - 1) (generator_in F.ops F.member self.now.generators.now) (column_in F.ops F.member self.now.offered.now) → ⊥) }
     {

@@ -12,6 +12,7 @@ use crate::offer::Offer;
 use fields::field::Field;
 use framing::Numbers;
 use tables::clear;
+use tables::sizes::{COLUMNS, FRAME, GENERATORS, WORK};
 
 mod degrees;
 mod judge;
@@ -30,7 +31,7 @@ pub fn offer_row<F: Field>(
     work: &mut [F],
 ) -> Result<Numbers, Objection>
     requires sized { (2 ≤ n) × (n ≤ 8) }
-    requires room { (length generators.now ≡ 136) × ((length offered.now ≡ 1088) × ((length frame.old ≡ 1105) × (length work.old ≡ 4521))) }
+    requires room { (length generators.now ≡ GENERATORS) × ((length offered.now ≡ COLUMNS) × ((length frame.old ≡ FRAME) × (length work.old ≡ WORK))) }
     ensures answer { MatchResult result (λ x. HoldsOffer F.ops F.member n generators.now offered.now frame.new x.degree x.divisor x.columns) (λ x. Objects F.ops n (n - 1) (generator_in F.ops F.member generators.now) (column_in F.ops F.member offered.now) x × (frame.new ≡ frame.old)) }
     ensures exact { MatchResult result (λ _. OptimalFor F.ops (n - 1) (generator_in F.ops F.member generators.now) (column_in F.ops F.member offered.now)) (λ _. OptimalFor F.ops (n - 1) (generator_in F.ops F.member generators.now) (column_in F.ops F.member offered.now) → ⊥) }
     ensures cleared { Cleared F.ops F.member work.new }

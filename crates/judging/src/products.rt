@@ -12,7 +12,7 @@ use fields::field::Field;
 use polynomials::{degree, multiply_into};
 use tables::clear;
 use tables::rows::add_multiple;
-use tables::sizes::WIDTH;
+use tables::sizes::{GENERATORS, WIDTH};
 
 // How many coefficients the product of two polynomials has.
 const PRODUCT: usize = 33;
@@ -20,23 +20,20 @@ const PRODUCT: usize = 33;
 impl<'a, F: Field> Offer<'a, F> {
     // Writes the generators times a column.
     fn write_product(&self, column: &[F], product: &mut [F])
-        requires { (length column.now ≡ 136) × (length product.old ≡ 33) }
+        requires { (length column.now ≡ GENERATORS) × (length product.old ≡ PRODUCT) }
         ensures { at F.ops F.member product.new ≡ dot (series F.ops) self.now.n (generator_in F.ops F.member self.now.generators.now) (row_in F.ops F.member column.now 0) }
     {
         clear(product);
-        for i in 0..self.n {
+        let generators = &self.generators[..WIDTH * self.n];
+        for (i, generator) in generators.chunks_exact(WIDTH).enumerate() {
             let start = WIDTH * i;
-            multiply_into(
-                product,
-                &self.generators[start..start + WIDTH],
-                &column[start..start + WIDTH],
-            );
+            multiply_into(product, generator, &column[start..start + WIDTH]);
         }
     }
 
     // Whether the generators times column j are the polynomial of these coefficients.
     pub(crate) fn product_is(&self, j: usize, polynomial: &[F]) -> bool
-        requires { (j < 8) × (length polynomial.now ≤ 33) }
+        requires { (j < 8) × (length polynomial.now ≤ PRODUCT) }
         ensures { Tells (dot (series F.ops) self.now.n (generator_in F.ops F.member self.now.generators.now) (column_in F.ops F.member self.now.offered.now j) ≡ at F.ops F.member polynomial.now) result }
     {
         let column = self.column(j);
@@ -48,6 +45,7 @@ impl<'a, F: Field> Offer<'a, F> {
     }
 
     // The lowest check column that the generators do not send to zero.
+    // By a `for`: a closure in `find` would need the clause of `product_is` once more.
     pub(crate) fn lowest_no_syzygy(&self) -> Option<usize>
         ensures { MatchOption result (AllSyzygies F.ops self.now.n (generator_in F.ops F.member self.now.generators.now) (column_in F.ops F.member self.now.offered.now)) (LowestNoSyzygy F.ops self.now.n (generator_in F.ops F.member self.now.generators.now) (column_in F.ops F.member self.now.offered.now)) }
     {

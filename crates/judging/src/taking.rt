@@ -12,18 +12,19 @@ use frames::row::DIVISOR;
 use framing::Numbers;
 use tables::clear;
 use tables::rows::copy_from;
-use tables::sizes::{COLUMNS, GENERATORS, WIDTH};
+use tables::sizes::{COLUMNS, FRAME, GENERATORS, WIDTH, WORK};
 
 impl<'a, F: Field> Offer<'a, F> {
     // Writes the first n rows and columns of the offered table and the divisor in the work table into a frame table, whose other places become zero.
     pub(crate) fn take_columns(&self, work: &[F], frame: &mut [F])
-        requires { (length work.now ≡ 4521) × (length frame.old ≡ 1105) }
+        requires { (length work.now ≡ WORK) × (length frame.old ≡ FRAME) }
         ensures copied { (j i : ℕ) → j < self.now.n → i < self.now.n → column_in F.ops F.member frame.new j i ≡ column_in F.ops F.member self.now.offered.now j i }
         ensures divisor { divisor_in F.ops F.member frame.new ≡ gcd_in F.ops F.member work.now }
         ensures rest { (j i k : ℕ) → j < 8 → i < 8 → k < 17 → (j < self.now.n → i < self.now.n → ⊥) → at F.ops F.member frame.new (136 * j + 17 * i + k) ≡ F.ops.zero }
     {
         clear(frame);
         copy_from(work, DIVISOR, frame, COLUMNS, WIDTH);
+        // By number: a part stands at one place in both tables.
         for j in 0..self.n {
             copy_from(
                 self.offered,
@@ -37,7 +38,7 @@ impl<'a, F: Field> Offer<'a, F> {
 
     // Judges the columns, and takes them into a frame table where nothing speaks against them; answers the numbers of the frame.
     pub(crate) fn take(&self, frame: &mut [F], work: &mut [F]) -> Result<Numbers, Objection>
-        requires { (length frame.old ≡ 1105) × (length work.old ≡ 4521) }
+        requires { (length frame.old ≡ FRAME) × (length work.old ≡ WORK) }
         ensures answer { MatchResult result (λ x. HoldsOffer F.ops F.member self.now.n self.now.generators.now self.now.offered.now frame.new x.degree x.divisor x.columns) (λ x. Objects F.ops self.now.n (self.now.n - 1) (generator_in F.ops F.member self.now.generators.now) (column_in F.ops F.member self.now.offered.now) x × (frame.new ≡ frame.old)) }
         ensures exact { MatchResult result (λ _. OptimalFor F.ops (self.now.n - 1) (generator_in F.ops F.member self.now.generators.now) (column_in F.ops F.member self.now.offered.now)) (λ _. OptimalFor F.ops (self.now.n - 1) (generator_in F.ops F.member self.now.generators.now) (column_in F.ops F.member self.now.offered.now) → ⊥) }
     {

@@ -1,8 +1,8 @@
-use Rattle.std.proofs.Common.{length, ◌*◌, ◌≡◌, suc, ◌-◌, ◌^◌, ◌<◌, sym, refl, subst, arith}
+use Rattle.std.proofs.Common.{length, ◌*◌, ◌≡◌, suc, ◌-◌, ◌^◌, ◌<◌, subst, arith}
 use Rattle.frames.specs.Rows.{column_in}
 use Rattle.frames.proofs.RowSteps.{highest_range}
 use Rattle.framing.specs.Framing.{DegreesFrom}
-use Rattle.framing.proofs.ColumnDegrees.{highest_degree, degrees_none, degrees_more, packed_below, eight_bytes}
+use Rattle.framing.proofs.ColumnDegrees.{highest_degree, degrees_more, packed_below, eight_bytes}
 use Rattle.framing.proofs.packing.pack_degrees.Goals as goal
 
 pub overflow_mul-packed : goal.overflow_mul-packed
@@ -18,12 +18,6 @@ overflow_add-packed g c =
     let below = packed_below c.args.n (c.loop-k.k - 1) c.row_degree.result c.loop-k.packed (omega arith) c.row_degree.ensures.bound (subst (λ i. c.loop-k.packed < 256 ^ (c.args.n - i)) next c.loop-k.invariant.bound) in
     let most = eight_bytes (c.args.n - (c.loop-k.k - 1)) (omega arith) in
     record { fits = omega arith }
-
-pub loop-k-init : goal.loop-k-init
-loop-k-init g c =
-    let f = g.F.Field in
-    let same : c.args.n - c.args.n ≡ 0 = omega arith in
-    record { degrees = degrees_none f.ops f.member c.args.n c.args.frame.now c.args.n refl; bound = subst (λ i. 0 < 256 ^ i) (sym same) (omega arith); above = omega arith }
 
 pub loop-k-preserved : goal.loop-k-preserved
 loop-k-preserved g c =

@@ -1,11 +1,8 @@
-use Rattle.std.proofs.Common.{◌≡◌, ℕ, ◌+◌, ◌*◌, sym, refl, ap, ◌∙◌, arith}
+use Rattle.std.proofs.Common.{◌≡◌, ℕ, ◌+◌, ◌*◌, sym, ap, ◌∙◌, arith}
 use native.Mathlib.Decide.{dec_lt}
 use Rattle.tables.specs.Places.{at, poly_at}
 use Rattle.tables.proofs.Parts.{poly_at_in, poly_at_is, poly_at_below}
 use Rattle.judging.proofs.offer.Offer.take_columns.Goals as goal
-
-pub loop-j-init : goal.loop-j-init
-loop-j-init g c = (λ t k l h. absurd (omega arith), λ k h. refl)
 
 pub loop-j-preserved : goal.loop-j-preserved
 loop-j-preserved g c =
