@@ -36,6 +36,7 @@ pub fn perform<F: Field>(
     let Ok(mut answers) = Vec::with_capacity(heap, requests.len()) else {
         return Err(AllocFailed { value: draft });
     };
+    // `runs` has the like loop; one for both would say in a trait what is lent and what moves, which is longer than the two.
     for request in requests {
         answers.push_reserved(perform_one(&draft, generators, request));
     }

@@ -9,6 +9,9 @@ ghost use Rattle.link.specs.Blocks.{stream, Tells};
 use fields::field::Field;
 use tables::sizes::{GENERATORS, WIDTH};
 
+// The highest power of a polynomial.
+const HIGHEST: usize = WIDTH - 1;
+
 // A block of n streams at so many times: the symbol of stream i at time t lies at n t + i.
 #[derive(Drop)]
 pub struct Streams<'a, F> {
@@ -73,6 +76,6 @@ impl<'a, F: Field> Streams<'a, F> {
         requires frame { length frame.now ≡ 1105 }
         ensures { Tells (Clean F.ops (self.now.n - 1) (column_in F.ops F.member frame.now) (stream F.ops F.member self.now.n self.now.symbols.now)) result }
     {
-        (0..self.times + 16).all(|t| self.clean_at(frame, t))
+        (0..self.times + HIGHEST).all(|t| self.clean_at(frame, t))
     }
 }

@@ -38,6 +38,7 @@ pub fn perform<F: Field>(
         return Err(Unperformed { design, requests });
     };
     let mut design = design;
+    // `history` has the like loop over lent requests, where the design stays and only a table changes.
     for request in requests {
         let stepped = perform_one(design, generators, frame, request);
         design = stepped.design;

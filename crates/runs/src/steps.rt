@@ -70,7 +70,7 @@ fn on_draft<F: Field>(
     }
 }
 
-// Reopens a framed design.
+// Reopens a framed design. No other call goes from framed to draft, so it settles its own answer.
 fn reopen_framed<F: Field>(framed: Framed, frame: &mut [F]) -> Stepped<F>
     ensures { (g : _) → Step F.ops F.member (λ x. F.number (F.member x)) F.order Reopen (held (AFramed framed) g frame.old) result.answer (held result.design g frame.new) }
 {

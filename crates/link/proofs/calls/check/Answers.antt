@@ -11,19 +11,22 @@ use Rattle.link.proofs.calls.check.Goals as goal
 pub returns-in_err-ask-clause-found : goal.returns-in_err-ask-clause-found
 returns-in_err-ask-clause-found g c = λ s. symbols_found (length c.args.block.now) c.args.framed.now.n c.args.framed.now.degree s c.args.framed.now.low
 
-pub returns : goal.returns
-returns g c =
+pub returns-clause-clean : goal.returns-clause-clean
+returns-clause-clean g c =
+    let f = g.F.Field in
+    let IsClean : ℕ → Type 0 = λ n. Tells (Clean f.ops (n - 1) (column_in f.ops f.member c.args.frame.now) (stream f.ops f.member n c.args.block.now)) c.is_clean.result in
+    subst IsClean c.generators-n.ensures c.is_clean.ensures
+
+pub returns-clause-encoded : goal.returns-clause-encoded
+returns-clause-encoded g c =
     let f = g.F.Field in
     let framed = c.args.framed.now in
     let block = c.args.block.now in
     let frame = c.args.frame.now in
-    let e = c.in_ok-ask.ensures.lengths in
     let IsClean : ℕ → Type 0 = λ n. Tells (Clean f.ops (n - 1) (column_in f.ops f.member frame) (stream f.ops f.member n block)) c.is_clean.result in
-    let tells : IsClean framed.n = subst IsClean c.generators-n.ensures c.is_clean.ensures in
     let symbols : c.saturating_sub-symbols.result ≡ symbols_in framed.n framed.degree (length block) = c.saturating_sub-symbols.ensures ∙ ap₂ (λ n d. symbols_in n d (length block)) c.generators-n.ensures c.degree.ensures in
-    record {
-      answer = c.in_ok-ask.ensures.answer ∙ ap (λ s. first_no (link_questions 1105 (length frame) framed.n framed.degree framed.divisor s (length block))) symbols;
-      clean = tells;
-      encoded = tells_encoded f.ops f.member c.is_field.ensures framed.n framed.low frame framed.degree (symbols_in framed.n framed.degree (length block)) block c.is_clean.result (e.3 ∙ ap (λ s. framed.n * (s + framed.degree)) symbols) tells;
-      found = λ s. symbols_found (length block) framed.n framed.degree s framed.low;
-    }
+    tells_encoded f.ops f.member c.is_field.ensures framed.n framed.low frame framed.degree (symbols_in framed.n framed.degree (length block)) block c.is_clean.result
+    (c.in_ok-ask.ensures.lengths.3 ∙ ap (λ s. framed.n * (s + framed.degree)) symbols) (subst IsClean c.generators-n.ensures c.is_clean.ensures)
+
+pub returns-clause-found : goal.returns-clause-found
+returns-clause-found g c = λ s. symbols_found (length c.args.block.now) c.args.framed.now.n c.args.framed.now.degree s c.args.framed.now.low
