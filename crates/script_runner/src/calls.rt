@@ -67,7 +67,8 @@ fn perform_one<F: Field>(
     let requests = vec![in heap; request]?;
     let done = perform(heap, design, generators, frame, requests)?;
     let mut answers = done.answers;
-    let answer = answers.pop().ok_or(Stopped::NoMemory)?;
+    // One request has one answer.
+    let answer = answers.pop().unwrap();
     Ok((done.design, answer))
 }
 

@@ -1,7 +1,7 @@
 use Rattle.std.proofs.Common.{vec_items, refl}
 use Rattle.scripts.specs.declared.call.Keyword.TheVariants as key
 use Rattle.scripts.specs.Words.{words}
-use Rattle.scripts.proofs.Following.{numbers_head, starts_numbers, starts_tail, call_refused}
+use Rattle.scripts.proofs.Following.{numbers_head, starts_numbers, call_refused}
 use Rattle.scripts.proofs.arguments.invert.Goals as goal
 
 pub returns-in_err-first : goal.returns-in_err-first
@@ -9,12 +9,6 @@ returns-in_err-first c =
     let ws = words c.args.text.now in
     call_refused key.Invert ws c.from_residual.result _ _ c.from_residual.ensures.1 c.in_err-first.ensures
     (λ d m. numbers_head ws m.0 (vec_items m.1) m.2)
-
-pub returns-in_err-block : goal.returns-in_err-block
-returns-in_err-block c =
-    let ws = words c.args.text.now in
-    call_refused key.Invert ws c.from_residual-in_err-block.result _ _ c.from_residual-in_err-block.ensures.1 c.in_err-block.ensures
-    (λ d m. (vec_items m.1, starts_tail ws (words c.in_ok-first.first.rest.now) _ m.0 (vec_items m.1) c.in_ok-first.ensures m.2))
 
 pub returns : goal.returns
 returns c =
