@@ -11,17 +11,6 @@ fn terms(list: &[u16]) -> u8 {
     u8::try_from(count).unwrap_or(u8::MAX)
 }
 
-// Appends the heads: for each polynomial the number of its first record, 0 where it is zero.
-fn push_heads(card: &mut Vec<u8>, row: &Row) -> Result<(), AllocError> {
-    let mut number = 1u8;
-    for polynomial in row.polynomials() {
-        let terms = terms(polynomial);
-        card.push(if terms == 0 { 0 } else { number })?;
-        number = number.saturating_add(terms);
-    }
-    Ok(())
-}
-
 // Appends the records of a polynomial, each with the number of the next, 0 at the last.
 fn push_chain(card: &mut Vec<u8>, polynomial: &[u16], first: u8) -> Result<(), AllocError> {
     let mut next = first;
@@ -37,16 +26,20 @@ fn push_chain(card: &mut Vec<u8>, polynomial: &[u16], first: u8) -> Result<(), A
     Ok(())
 }
 
-// The card of a row.
+// The card of a row: the kind, n, how many records there are; the number of each polynomial's first record, 0 where it is zero; the
+// records.
 pub fn card_of<F: Field>(heap: Global, row: &Row) -> Result<Vec<u8>, AllocError> {
     let n = u8::try_from(row.n).unwrap_or(u8::MAX);
     let mut card = vec![in heap; F::kind(), n, terms(row.polynomials.as_flattened())]?;
-    push_heads(&mut card, row)?;
+    let mut records = Vec::new(heap);
     let mut first = 1u8;
     for polynomial in row.polynomials() {
-        push_chain(&mut card, polynomial, first)?;
-        first = first.saturating_add(terms(polynomial));
+        let terms = terms(polynomial);
+        card.push(if terms == 0 { 0 } else { first })?;
+        push_chain(&mut records, polynomial, first)?;
+        first = first.saturating_add(terms);
     }
+    card.extend_from_slice(records.as_slice())?;
     Ok(card)
 }
 

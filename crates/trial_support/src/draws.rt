@@ -1,4 +1,6 @@
 // Numbers that look random, the same at every run.
+ghost use Rattle.std.specs.Prelude.{◌-◌, ◌≤◌};
+
 use fields::field::Field;
 
 #[derive(Drop)]
@@ -12,7 +14,9 @@ impl Draws {
     }
 
     // The next number below a bound, 0 where the bound is 0.
-    pub fn below(&mut self, bound: u32) -> u32 {
+    pub fn below(&mut self, bound: u32) -> u32
+        ensures { result ≤ bound - 1 }
+    {
         self.state = self
             .state
             .wrapping_mul(6_364_136_223_846_793_005)
@@ -22,7 +26,9 @@ impl Draws {
     }
 
     // The next number below a bound, as a place.
-    pub fn place(&mut self, bound: usize) -> usize {
+    pub fn place(&mut self, bound: usize) -> usize
+        ensures { result ≤ bound - 1 }
+    {
         let Ok(bound) = u32::try_from(bound) else {
             return 0;
         };
@@ -37,6 +43,6 @@ impl Draws {
     // The code of any member but zero.
     pub fn nonzero<F: Field>(&mut self) -> u16 {
         let code = self.below(F::size() - 1);
-        u16::try_from(code).unwrap_or(0).saturating_add(1)
+        u16::try_from(code + 1).unwrap_or(1)
     }
 }

@@ -1,7 +1,7 @@
 // What is refused, as all routes say it.
 use fields::fault::Refusal;
 
-// The number of the question that is answered no, and where.
+// The number of the question that is answered no, and where. A number, since it is all that the two routes have in common.
 #[derive(Clone, Copy, PartialEq, Eq)]
 pub struct Fault {
     pub number: u8,

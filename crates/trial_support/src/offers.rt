@@ -45,7 +45,7 @@ impl Offered {
     // One change: a multiple of another column added, a column multiplied, two columns swapped, or one code changed.
     pub fn change<F: Field>(&mut self, draws: &mut Draws, n: usize) {
         let j = draws.place(n);
-        let l = draws.place(n.saturating_sub(1)).saturating_add(1);
+        let l = draws.place(n.saturating_sub(1)) + 1;
         let (Some(other), Some(column)) = (self.columns.get(l).copied(), self.columns.get_mut(j))
         else {
             return;

@@ -104,7 +104,7 @@ struct Plan {
 }
 
 fn draw_plan(draws: &mut Draws, shape: Shape) -> Plan {
-    let n = draws.place(7).saturating_add(2);
+    let n = draws.place(7) + 2;
     match shape {
         Shape::Plain | Shape::Sparse | Shape::Empty => Plan {
             n,
@@ -114,7 +114,7 @@ fn draw_plan(draws: &mut Draws, shape: Shape) -> Plan {
         Shape::Shared => Plan {
             n,
             degree: draws.place(6),
-            shared: draws.place(11).saturating_add(1),
+            shared: draws.place(11) + 1,
         },
         Shape::Flat => Plan {
             n,

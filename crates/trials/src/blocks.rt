@@ -33,7 +33,7 @@ impl<'a, F: Field + Clone + Drop> Sending<'a, F> {
         framed: &'a Framed,
         tables: &'a Tables<F>,
     ) -> Result<Sending<'a, F>, AllocError> {
-        let symbols = draws.place(4).saturating_add(1);
+        let symbols = draws.place(4) + 1;
         let times = symbols.saturating_add(framed.degree());
         let mut message = vec![in heap; F::zero(); symbols]?;
         for x in message.iter_mut() {
@@ -134,7 +134,8 @@ impl<F: Field + Drop> Sending<'_, F> {
         tally
     }
 
-    // Changes one symbol after the other: to every other member in a short block, to three in a long one.
+    // Changes one symbol after the other: to every other member in a short block, to three in a long one. By place, since the block
+    // changes meanwhile.
     pub fn change_symbols(&mut self, draws: &mut Draws) -> Tally {
         let mut tally = Tally::default();
         let length = self.block.len();

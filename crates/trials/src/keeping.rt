@@ -30,6 +30,7 @@ pub fn writing_agrees<F: Field>(draft: &Draft, generators: &[F], card: &[u8]) ->
 
 // Whether a draft that was read, written and read again is the same.
 fn rewriting_agrees<F: Field>(draft: &Draft, table: &mut [F], row: &Row) -> bool {
+    // The whole buffer, as the call asks.
     let mut buffer = [7u8; CARD];
     let Ok(length) = write_card(draft, table, &mut buffer) else {
         return false;
@@ -92,7 +93,8 @@ fn damage_byte<F: Field, V: FnMut(u32) -> u32>(
     tally
 }
 
-// Reads a card as it is, cut at every length, with a byte too many, and with each byte damaged.
+// Reads a card as it is, cut at every length, with a byte too many, and with each byte damaged. By place, since the card changes
+// meanwhile.
 pub fn try_card<F: Field>(
     draws: &mut Draws,
     mut card: Vec<u8>,
