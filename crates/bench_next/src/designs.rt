@@ -18,15 +18,6 @@ const MESSAGE: usize = 4096;
 
 const STREAM: usize = 4112;
 
-// A table of so many zeros.
-fn zeros<F: Field>(heap: Global, long: usize) -> Result<Vec<F>, AllocError> {
-    let mut table = Vec::with_capacity(heap, long)?;
-    for _ in 0..long {
-        table.push(F::zero())?;
-    }
-    Ok(table)
-}
-
 // A framed design, in words.
 #[derive(Drop)]
 struct FramedText(Framed);
@@ -47,12 +38,12 @@ struct Tables<F: Field> {
     work: Vec<F>,
 }
 
-impl<F: Field> Tables<F> {
+impl<F: Field + Clone> Tables<F> {
     fn zeros(heap: Global) -> Result<Tables<F>, AllocError> {
         Ok(Tables {
-            generators: zeros(heap, GENERATORS)?,
-            frame: zeros(heap, FRAME)?,
-            work: zeros(heap, WORK)?,
+            generators: vec![in heap; F::zero(); GENERATORS]?,
+            frame: vec![in heap; F::zero(); FRAME]?,
+            work: vec![in heap; F::zero(); WORK]?,
         })
     }
 
@@ -118,7 +109,7 @@ fn run_blocks<F: Field>(
 }
 
 // Sends messages under n generators.
-fn run_link<F: Field>(
+fn run_link<F: Field + Clone>(
     bench: &Bench<'_>,
     heap: Global,
     n: usize,
@@ -126,7 +117,7 @@ fn run_link<F: Field>(
     message: &mut [F],
 ) -> anyhow::Result<()> {
     bench.heading(format_args!("blocks of {n} streams"))?;
-    let mut block = zeros(heap, n.saturating_mul(STREAM))?;
+    let mut block = vec![in heap; F::zero(); n.saturating_mul(STREAM)]?;
     if let Some(draft) = tables.draft(n) {
         if let Some(framed) = tables.frame(draft) {
             run_blocks(bench, &framed, tables, message, &mut block)?;
@@ -136,9 +127,13 @@ fn run_link<F: Field>(
 }
 
 // Frames and blocks.
-pub fn run_designs<F: Field>(bench: &Bench<'_>, heap: Global, name: &str) -> anyhow::Result<()> {
+pub fn run_designs<F: Field + Clone>(
+    bench: &Bench<'_>,
+    heap: Global,
+    name: &str,
+) -> anyhow::Result<()> {
     let mut tables = Tables::<F>::zeros(heap)?;
-    let mut message = zeros(heap, MESSAGE)?;
+    let mut message = vec![in heap; F::zero(); MESSAGE]?;
     bench.measure(name, || tables.frame_again())?;
     run_link(bench, heap, 2, &mut tables, &mut message)?;
     run_link(bench, heap, 8, &mut tables, &mut message)
