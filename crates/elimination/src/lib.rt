@@ -6,7 +6,7 @@ ghost use Rattle.tables.specs.Places.{at};
 ghost use Rattle.elimination.specs.Echelon.{Echelon, Relations, TakesNext, places_after};
 ghost use Rattle.elimination.specs.Steps.{write, reduced, column_at, entry_at, rank_after, AreSteps, Takes};
 
-use crate::step::{Pivot, apply_step, factors_of, find_pivot};
+use crate::step::{Pivot, find_pivot, record_step, reduce};
 use fields::field::Field;
 
 pub mod step;
@@ -36,27 +36,22 @@ impl<'a, F: Field> Steps<'a, F> {
         }
     }
 
-    // Brings a column up to date by the steps found so far.
-    pub fn reduce(&self, column: &mut [F])
+    // Brings a column up to date by the steps.
+    fn bring(&self, column: &mut [F])
         requires { length column.old ≡ self.now.rows }
         ensures { at F.ops F.member column.new ≡ reduced F.ops (column_at F.ops F.member self.now.rows self.now.factors.now) (entry_at self.now.pivots.now) self.now.rank (at F.ops F.member column.old) }
     {
-        for (t, pivot) in self.pivots[..self.rank].iter().enumerate() {
-            apply_step(factors_of(self.rows, self.factors, t), t, *pivot, column);
-        }
+        reduce(self.rows, self.rank, self.factors, self.pivots, column);
     }
 
-    // Writes the numbers of the step of a reduced column and its pivot behind those of the steps found so far.
-    pub fn record_step(&mut self, column: &[F], pivot: Pivot<F>)
+    // Writes the numbers of one step more.
+    fn record(&mut self, column: &[F], pivot: Pivot<F>)
         requires room { (self.old.rows * self.old.rank + self.old.rows ≤ length self.old.factors.now) × ((length column.now ≡ self.old.rows) × (pivot.row < self.old.rows)) }
         ensures here { column_at F.ops F.member self.old.rows self.new.factors.now self.old.rank ≡ write pivot.row (F.member pivot.inverse) (at F.ops F.member column.now) }
         ensures others { (k : ℕ) → k < self.old.rows * self.old.rank → at F.ops F.member self.new.factors.now k ≡ at F.ops F.member self.old.factors.now k }
         ensures kept { (self.new.rows ≡ self.old.rows) × ((self.new.rank ≡ self.old.rank) × (self.new.pivots.now ≡ self.old.pivots.now)) }
     {
-        let start = self.rows * self.rank;
-        let step = &mut self.factors[start..start + self.rows];
-        step.copy_from_slice(column);
-        step[pivot.row] = pivot.inverse;
+        record_step(self.rows, self.rank, self.factors, column, pivot);
     }
 
     // Takes one more column: reduces it by the steps found so far, answers whether it is pivotal, and if it is, records the step that turns it into
@@ -66,11 +61,11 @@ impl<'a, F: Field> Steps<'a, F> {
         ensures takes { Takes F.ops self.old.rows self.old.rank (column_at F.ops F.member self.old.rows self.old.factors.now) (entry_at self.old.pivots.now) (at F.ops F.member column.old) (column_at F.ops F.member self.old.rows self.new.factors.now) (entry_at self.new.pivots.now) (at F.ops F.member column.new) result }
         ensures counted { (self.new.rows ≡ self.old.rows) × (self.new.rank ≡ rank_after self.old.rank result) }
     {
-        self.reduce(column);
+        self.bring(column);
         let Some(pivot) = find_pivot(column, self.rank) else {
             return false;
         };
-        self.record_step(column, pivot);
+        self.record(column, pivot);
         self.pivots[self.rank] = pivot.row;
         self.rank += 1;
         true

@@ -1,7 +1,7 @@
 // One step of elimination on a column.
 ghost use Rattle.std.specs.Prelude.{◌≡◌, ℕ, ◌+◌, ◌*◌, ◌<◌, ◌≤◌, length, MatchOption};
 ghost use Rattle.tables.specs.Places.{at};
-ghost use Rattle.elimination.specs.Steps.{step as after_step, column_at, IsPivot};
+ghost use Rattle.elimination.specs.Steps.{step as after_step, reduced, column_at, entry_at, write, AreSteps, IsPivot};
 
 use fields::field::Field;
 
@@ -30,12 +30,23 @@ pub fn apply_step<F: Field>(factors: &[F], t: usize, p: usize, column: &mut [F])
 }
 
 // The numbers of step t.
-pub(crate) fn factors_of<F: Field>(rows: usize, steps: &[F], t: usize) -> &[F]
+fn factors_of<F: Field>(rows: usize, steps: &[F], t: usize) -> &[F]
     requires { rows * t + rows ≤ length steps.now }
     ensures value { at F.ops F.member result.now ≡ column_at F.ops F.member rows steps.now t }
     ensures len { length result.now ≡ rows }
 {
     &steps[rows * t..rows * t + rows]
+}
+
+// Brings a column up to date by the first steps.
+pub fn reduce<F: Field>(rows: usize, rank: usize, factors: &[F], pivots: &[usize], column: &mut [F])
+    requires room { (rows * rank ≤ length factors.now) × ((rank ≤ length pivots.now) × (length column.old ≡ rows)) }
+    requires valid { AreSteps F.ops rows rank (column_at F.ops F.member rows factors.now) (entry_at pivots.now) }
+    ensures { at F.ops F.member column.new ≡ reduced F.ops (column_at F.ops F.member rows factors.now) (entry_at pivots.now) rank (at F.ops F.member column.old) }
+{
+    for (t, pivot) in pivots[..rank].iter().enumerate() {
+        apply_step(factors_of(rows, factors, t), t, *pivot, column);
+    }
 }
 
 // A row in which a column has an entry that is not zero, and the inverse of the entry.
@@ -55,4 +66,22 @@ pub fn find_pivot<F: Field>(column: &[F], rank: usize) -> Option<Pivot<F>>
         }
     }
     None
+}
+
+// Writes the numbers of the step of a reduced column and its pivot behind those of the first steps.
+pub fn record_step<F: Field>(
+    rows: usize,
+    rank: usize,
+    factors: &mut [F],
+    column: &[F],
+    pivot: Pivot<F>,
+)
+    requires room { (rows * rank + rows ≤ length factors.old) × ((length column.now ≡ rows) × (pivot.row < rows)) }
+    ensures here { column_at F.ops F.member rows factors.new rank ≡ write pivot.row (F.member pivot.inverse) (at F.ops F.member column.now) }
+    ensures others { (k : ℕ) → k < rows * rank → at F.ops F.member factors.new k ≡ at F.ops F.member factors.old k }
+{
+    let start = rows * rank;
+    let step = &mut factors[start..start + rows];
+    step.copy_from_slice(column);
+    step[pivot.row] = pivot.inverse;
 }

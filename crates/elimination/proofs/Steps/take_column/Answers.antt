@@ -17,7 +17,7 @@ returns-in_default-clause-takes g c =
     record {
       valid = steps;
       bound = rank_few f.ops s.rows s.rank e (entry_at s.pivots.now) s.valid;
-      judged = taken_sum f.ops f.member met.laws s.rows s.rank s.factors.now s.pivots.now c.args.column.now c.reduce.new.column c.requires c.reduce.ensures steps c.in_default.ensures;
+      judged = taken_sum f.ops f.member met.laws s.rows s.rank s.factors.now s.pivots.now c.args.column.now c.bring.new.column c.requires c.bring.ensures steps c.in_default.ensures;
       reduces = λ V turns. turns;
     }
 
@@ -28,18 +28,18 @@ returns-clause-takes g c =
     let s = c.args.self.now in
     let e = column_at f.ops f.member s.rows s.factors.now in
     let pivot = c.in-Some.pivot in
-    let now = c.reduce.new.column in
-    let width : length now ≡ s.rows = omega (arith, c.requires, c.reduce.auto.column) in
+    let now = c.bring.new.column in
+    let width : length now ≡ s.rows = omega (arith, c.requires, c.bring.auto.column) in
     let q : IsPivot f.ops s.rows s.rank (at f.ops f.member now) pivot.row (f.member pivot.inverse) =
     subst (λ n. IsPivot f.ops n s.rank (at f.ops f.member now) pivot.row (f.member pivot.inverse)) width c.in-Some.ensures in
     let less : s.rank < length s.pivots.now = omega (arith, q.low, q.within, s.room) in
-    let r = c.record_step in
+    let r = c.record in
     rw (r.ensures.kept.1.0, r.ensures.kept.1.1) record {
-      valid = taken_steps f.ops f.member met.laws s.rows s.rank s.factors.now s.pivots.now c.args.column.now now c.requires c.reduce.ensures pivot.row pivot.inverse q
+      valid = taken_steps f.ops f.member met.laws s.rows s.rank s.factors.now s.pivots.now c.args.column.now now c.requires c.bring.ensures pivot.row pivot.inverse q
           r.new.self.factors.now r.ensures.here r.ensures.others less (the_steps f.ops s.rows s.rank e (entry_at s.pivots.now) s.valid met.laws met.invertible);
       bound = omega (arith, q.low, q.within);
-      judged = taken_pivotal f.ops f.member met.laws s.rows s.rank s.factors.now s.pivots.now c.args.column.now now c.requires c.reduce.ensures pivot.row pivot.inverse q;
-      reduces = taken_reduces f.ops f.member met.laws s.rows s.rank s.factors.now s.pivots.now c.args.column.now now c.requires c.reduce.ensures pivot.row pivot.inverse q
+      judged = taken_pivotal f.ops f.member met.laws s.rows s.rank s.factors.now s.pivots.now c.args.column.now now c.requires c.bring.ensures pivot.row pivot.inverse q;
+      reduces = taken_reduces f.ops f.member met.laws s.rows s.rank s.factors.now s.pivots.now c.args.column.now now c.requires c.bring.ensures pivot.row pivot.inverse q
           r.new.self.factors.now r.ensures.here r.ensures.others less;
     }
 
@@ -49,20 +49,20 @@ invariant_of-self-clause-valid g c =
     let met = g.met.F.Field in
     let s = c.args.self.now in
     let pivot = c.in-Some.pivot in
-    let now = c.reduce.new.column in
-    let width : length now ≡ s.rows = omega (arith, c.requires, c.reduce.auto.column) in
+    let now = c.bring.new.column in
+    let width : length now ≡ s.rows = omega (arith, c.requires, c.bring.auto.column) in
     let q : IsPivot f.ops s.rows s.rank (at f.ops f.member now) pivot.row (f.member pivot.inverse) =
     subst (λ n. IsPivot f.ops n s.rank (at f.ops f.member now) pivot.row (f.member pivot.inverse)) width c.in-Some.ensures in
     let less : s.rank < length s.pivots.now = omega (arith, q.low, q.within, s.room) in
-    let r = c.record_step in
+    let r = c.record in
     rw (r.ensures.kept.0, r.ensures.kept.1.0, r.ensures.kept.1.1, add-one)
-    (∥∥₁_map s.valid (taken_steps f.ops f.member met.laws s.rows s.rank s.factors.now s.pivots.now c.args.column.now now c.requires c.reduce.ensures pivot.row pivot.inverse q
+    (∥∥₁_map s.valid (taken_steps f.ops f.member met.laws s.rows s.rank s.factors.now s.pivots.now c.args.column.now now c.requires c.bring.ensures pivot.row pivot.inverse q
     r.new.self.factors.now r.ensures.here r.ensures.others less))
 
-pub record_step-requires : goal.record_step-requires
-record_step-requires g c =
+pub record-requires : goal.record-requires
+record-requires g c =
     let s = c.args.self.now in
-    let width : length c.reduce.new.column ≡ s.rows = omega (arith, c.requires, c.reduce.auto.column) in
+    let width : length c.bring.new.column ≡ s.rows = omega (arith, c.requires, c.bring.auto.column) in
     let q = c.in-Some.ensures in
     let less : s.rank < s.rows = omega (arith, q.low, q.within, width) in
     record { room = (omega (arith, s.room, row_room s.rows s.rank s.rows less), (width, omega (arith, q.within, width))) }
