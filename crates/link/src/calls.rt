@@ -20,7 +20,7 @@ use fields::field::Field;
 use tables::sizes::{FRAME, GENERATORS, WIDTH};
 
 // The longest message.
-const SYMBOLS: usize = 4096;
+pub const SYMBOLS: usize = 4096;
 
 // The members are a field, as the contract of an inverse says.
 fn is_field<F: Field>()

@@ -2,20 +2,19 @@
 use crate::desk::Desk;
 use crate::elements::{bytes, elements, zeros};
 use crate::offered::offered;
-use crate::sizes::{CARD, WORK};
 use crate::stopped::{Reason, Stopped};
 use crate::text::{BytesText, FrameText, GeneratorsText, PolynomialText, SymbolsText};
 use cards::read::read_card;
+use cards::sizes::CARD;
 use cards::write::write_card;
 use design::draft::Draft;
 use fields::field::Field;
+use link::calls::SYMBOLS;
 use runs::perform::perform;
 use runs::request::{Answer, Design, Request};
 use scripts::call::Call;
 use std::alloc::{AllocError, Global};
-
-// A longer message than this is refused whatever the block.
-const LONGEST: usize = 4096;
+use tables::sizes::WORK;
 
 // Where a design stands, by its numbers.
 fn standing(heap: Global, design: &Design) -> Result<String, Stopped> {
@@ -146,7 +145,8 @@ fn column<F: Field>(heap: Global, desk: &Desk<F>, i: u32, j: u32) -> Result<Stri
 fn encode<F: Field>(heap: Global, desk: &mut Desk<F>, codes: &[u32]) -> Result<String, Stopped> {
     let message = elements(heap, codes)?;
     let framed = desk.framed()?;
-    let symbols = message.len().min(LONGEST + 1);
+    // A longer message than that is refused whatever the block.
+    let symbols = message.len().min(SYMBOLS + 1);
     let length = framed
         .generators()
         .saturating_mul(symbols.saturating_add(framed.degree()));
@@ -166,7 +166,7 @@ fn invert<F: Field>(
     codes: &[u32],
 ) -> Result<String, Stopped> {
     let block = elements(heap, codes)?;
-    let length = (symbols as usize).min(LONGEST + 1);
+    let length = (symbols as usize).min(SYMBOLS + 1);
     let message = zeros(heap, length)?;
     ask(heap, desk, Request::Invert { block, message })
 }

@@ -1,12 +1,12 @@
 // The tables of one field, and the design that stands in them.
 use crate::elements::zeros;
-use crate::sizes::{FRAME, GENERATORS};
 use crate::stopped::Reason;
 use design::draft::Draft;
 use design::framed::Framed;
 use fields::field::Field;
 use runs::request::Design;
 use std::alloc::{AllocError, Global};
+use tables::sizes::{FRAME, GENERATORS};
 
 #[derive(Drop)]
 pub struct Desk<F: Field> {

@@ -7,6 +7,5 @@ mod elements;
 pub mod input;
 mod offered;
 pub mod run;
-mod sizes;
 mod stopped;
 mod text;

@@ -1,14 +1,14 @@
 // The columns of an offer as a table.
 use crate::elements::zeros;
-use crate::sizes::{COLUMNS, GENERATORS, POLYNOMIAL};
 use crate::stopped::Stopped;
 use fields::fault::FieldFault;
 use fields::field::Field;
 use std::alloc::Global;
+use tables::sizes::{COLUMNS, GENERATORS, WIDTH};
 
 // Whether a column has at most 8 components of at most 17 coefficients.
 fn column_fits(column: &[Vec<u32>]) -> bool {
-    column.len() <= 8 && column.iter().all(|component| component.len() <= POLYNOMIAL)
+    column.len() <= 8 && column.iter().all(|component| component.len() <= WIDTH)
 }
 
 // Whether there are at most 8 columns, and each fits.
@@ -30,7 +30,7 @@ fn write_component<F: Field>(table: &mut [F], codes: &[u32]) -> Result<(), Field
 
 // Writes a column.
 fn write_column<F: Field>(table: &mut [F], column: &[Vec<u32>]) -> Result<(), FieldFault> {
-    let mut parts = table.chunks_mut(POLYNOMIAL);
+    let mut parts = table.chunks_mut(WIDTH);
     for component in column {
         write_component(parts.next().unwrap_or(&mut []), component)?;
     }

@@ -1,8 +1,8 @@
 // What is printed of the answers.
-use crate::sizes::{COLUMNS, FRAME, POLYNOMIAL};
 use design::framed::Framed;
 use fields::field::Field;
 use std::fmt;
+use tables::sizes::{COLUMNS, FRAME, WIDTH};
 
 // Bytes, with a blank before each.
 #[derive(Drop)]
@@ -103,7 +103,7 @@ pub struct GeneratorsText<'a, F: Field> {
 
 impl<F: Field> fmt::Display for GeneratorsText<'_, F> {
     fn fmt<W: fmt::Write>(&self, f: &mut fmt::Formatter<W>) -> fmt::Result {
-        for (i, coefficients) in self.generators.chunks(POLYNOMIAL).take(self.n).enumerate() {
+        for (i, coefficients) in self.generators.chunks(WIDTH).take(self.n).enumerate() {
             let newline = if i == 0 { "" } else { "\n" };
             let polynomial = PolynomialText(coefficients);
             write!(f, "{newline}generator {i}: {polynomial}")?;
