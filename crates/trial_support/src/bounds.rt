@@ -20,8 +20,8 @@ impl Echelon {
     // What is left of a list when the lists that stand at its powers are taken away, from the top down.
     fn reduce<F: Field>(&self, list: [u16; LENGTH]) -> [u16; LENGTH] {
         let mut rest = list;
-        for k in (0..LENGTH).rev() {
-            if let Some(standing) = &self.lists[k] {
+        for (k, standing) in self.lists.iter().enumerate().rev() {
+            if let Some(standing) = standing {
                 let x = member_of::<F>(rest[k]).negate();
                 add_shifted(&mut rest, 0, x, standing);
             }
