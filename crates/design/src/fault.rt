@@ -1,9 +1,11 @@
 // The refusals of the calls on designs.
 ghost use Rattle.std.specs.Prelude.{◌≡◌, ℕ};
 ghost use Rattle.design.specs.Faults.{design_number, design_layer, design_place};
+ghost use Rattle.design.specs.Offers.{fault_of};
 ghost use Rattle.design.specs.declared.fault.DesignFault.TheVariants.{Field};
 
 use fields::fault::{FieldFault, Layer, Refusal};
+use judging::objection::Objection;
 use std::fmt;
 
 #[derive(Clone, Copy, PartialEq, Eq, Debug)]
@@ -35,6 +37,14 @@ pub enum DesignFault {
 pub struct HandedBack<T: Drop> {
     pub design: T,
     pub fault: DesignFault,
+}
+
+impl<T: Drop> HandedBack<T> {
+    pub(crate) fn of(design: T, fault: DesignFault) -> HandedBack<T>
+        ensures { (result.design ≡ design) × (result.fault ≡ fault) }
+    {
+        HandedBack { design, fault }
+    }
 }
 
 impl Refusal for DesignFault {
@@ -80,6 +90,20 @@ impl From<FieldFault> for DesignFault {
 
     fn from(fault: FieldFault) -> DesignFault {
         Self::Field(fault)
+    }
+}
+
+impl From<Objection> for DesignFault {
+    ghost from_gives = { λ x f. f ≡ fault_of x };
+
+    fn from(objection: Objection) -> DesignFault {
+        match objection {
+            Objection::AllZero => Self::AllZero,
+            Objection::First => Self::FirstColumn,
+            Objection::Check(j) => Self::CheckColumn(j),
+            Objection::Degrees => Self::ColumnDegrees,
+            Objection::Leading => Self::LeadingVector,
+        }
     }
 }
 

@@ -1,6 +1,7 @@
 // A framed design: what is known of a design once its frame stands in the caller's table.
 ghost use Rattle.std.specs.Prelude.{◌≡◌, ◌+◌, ◌*◌, ◌/◌, ◌%◌, ◌^◌, ◌≤◌};
 
+use crate::draft::Draft;
 use framing::Numbers;
 
 mod calls;
@@ -16,7 +17,7 @@ pub struct Framed {
     degree: usize,
     // The degree of the divisor.
     divisor: usize,
-    // The degrees of the columns: that of column j in bits 8 j to 8 j + 7, zero from n on.
+    // The degrees of the columns: that of column j in bits 8 j to 8 j + 7, zero from n on. One number, since callers are given it as one.
     columns: u64,
     ghost low: { 2 ≤ n },
     ghost high: { n ≤ 8 },
@@ -24,13 +25,13 @@ pub struct Framed {
 }
 
 impl Framed {
-    // The framed design of n generators with the numbers of its frame.
-    pub(crate) fn of(n: usize, numbers: Numbers) -> Framed
-        requires { (2 ≤ n) × ((n ≤ 8) × (numbers.degree + numbers.divisor ≤ 16)) }
-        ensures { (result.n ≡ n) × ((result.degree ≡ numbers.degree) × ((result.divisor ≡ numbers.divisor) × (result.columns ≡ numbers.columns))) }
+    // The framed design of a draft with the numbers of its frame.
+    pub(crate) fn of(draft: Draft, numbers: Numbers) -> Framed
+        requires { numbers.degree + numbers.divisor ≤ 16 }
+        ensures { (result.n ≡ draft.n) × ((result.degree ≡ numbers.degree) × ((result.divisor ≡ numbers.divisor) × (result.columns ≡ numbers.columns))) }
     {
         Framed {
-            n,
+            n: draft.count(),
             degree: numbers.degree,
             divisor: numbers.divisor,
             columns: numbers.columns,

@@ -1,5 +1,5 @@
 -- Columns in a table, changed row by row.
-use Rattle.std.proofs.Common.{◌≡◌, ℕ, ◌<◌, ◌≤◌, List, [], ◌∷◌, length, get_or, set, sym, refl, ap, ◌∙◌, ap₂, arith, length-set}
+use Rattle.std.proofs.Common.{◌≡◌, ℕ, ◌+◌, ◌<◌, ◌≤◌, List, [], ◌∷◌, length, get_or, set, sym, refl, ap, ◌∙◌, subst, ap₂, le_refl, arith, length-set}
 use mathlib.Core.Path.{fun_ext}
 use native.Mathlib.Decide.{ℕ_discrete, dec_lt}
 use Rattle.algebra.specs.Rings.{RingOps, RingLaws}
@@ -25,6 +25,15 @@ module _ {F M : Type 0} (o : RingOps M) (m : F → M) where
   Added start factors y now r =
       ((k : ℕ) → k < r → at o m now k ≡ o.sum (at o m start k) (o.product (at o m factors k) y))
       × ((k : ℕ) → r ≤ k → at o m now k ≡ at o m start k)
+
+  pub added_more : (start factors : List F) (y : M) (now : List F) (r : ℕ) (x : F) → r < length now → Added start factors y now r → m x ≡ o.sum (at o m now r) (o.product (at o m factors r) y) → Added start factors y (set now r x) (r + 1)
+  added_more start factors y now r x room (a, b) is = (
+    λ k h. elim (ℕ_discrete k r) [
+      | yes e ↦ subst (λ j. at o m (set now r x) j ≡ o.sum (at o m start j) (o.product (at o m factors j) y)) (sym e) (at_set_same o m now r x room ∙ is ∙ ap (λ s. o.sum s (o.product (at o m factors r) y)) (b r (le_refl r)))
+      | no n ↦ at_set_other o m now r k x n ∙ a k (omega arith)
+    ],
+    λ k h. at_set_other o m now r k x (λ e. omega arith) ∙ b k (omega arith),
+  )
 
   module _ (L : RingLaws o) where
     pub added_all : (start factors : List F) (y : M) (now : List F) (r : ℕ) → length factors ≡ length now → length now ≡ length start → length now ≤ r → Added start factors y now r → (k : ℕ) → at o m now k ≡ o.sum (at o m start k) (o.product (at o m factors k) y)

@@ -6,3 +6,5 @@ pub mod Taking
 pub mod Echelons
 pub mod Next
 pub mod Whole
+pub mod Valid
+pub mod Skipped

@@ -1,14 +1,12 @@
 -- Steps in a table: reading the numbers of one, and writing one behind the others.
 use Rattle.std.proofs.Common.{◌≡◌, ℕ, zero, suc, ◌+◌, ◌-◌, ◌*◌, ◌<◌, ◌≤◌, List, [], ◌∷◌, length, take, drop, sym, refl, ap, ◌∙◌, ap₂, suc-add, mul-le-mul_left, zero-add, mul-suc, add-one, arith}
 use mathlib.Core.Path.{fun_ext}
-use native.Mathlib.Decide.{ℕ_discrete}
 use borrow.Rule.Slice.PartMut.{put_mid}
 use Rattle.std.proofs.lemmas.Slice.{take-put_mid_below, drop-put_mid, between-put_mid}
 use Rattle.algebra.specs.Rings.{RingOps}
-use Rattle.tables.specs.Places.{at, Kept}
-use Rattle.tables.proofs.Places.{at_past}
-use Rattle.elimination.specs.Steps.{write, front, step, reduced, column_at}
-use Rattle.elimination.proofs.StepMaps.{write_same, write_other, front_low, front_high, front_is}
+use Rattle.tables.specs.Places.{at}
+use Rattle.elimination.specs.Steps.{front, step, reduced, column_at}
+use Rattle.elimination.proofs.StepMaps.{front_low, front_high, front_is}
 
 -- the rows of step t lie below those of step n
 pub row_room : (rows t n : ℕ) → t < n → rows * t + rows ≤ rows * n
@@ -46,20 +44,6 @@ module _ {F M : Type 0} (o : RingOps M) (m : F → M) where
   -- what stands below the rows of step n is all that the steps before it have
   pub columns_same : (rows n : ℕ) (xs ys : List F) → ((k : ℕ) → k < rows * n → at o m ys k ≡ at o m xs k) → (t : ℕ) → t < n → column_at o m rows ys t ≡ column_at o m rows xs t
   columns_same rows n xs ys e t h = front_ext o rows (λ r. at o m ys (rows * t + r)) (λ r. at o m xs (rows * t + r)) (λ r l. e (rows * t + r) (omega (arith, row_room rows t n h)))
-
-  -- the first r entries of a column stand from base on, and nothing below base is changed
-  abbrev pub Copied : List F → List F → ℕ → List F → ℕ → Type 0
-  Copied start column base now r = ((k : ℕ) → k < r → at o m now (base + k) ≡ at o m column k) × ((k : ℕ) → k < base → at o m now k ≡ at o m start k)
-
-  -- the column with x at row p
-  pub copied_all : (start column : List F) (base rows : ℕ) (now next : List F) (r p : ℕ) (x : M) → rows ≤ r → length column ≤ rows → p < rows → Copied start column base now r → at o m next (base + p) ≡ x → Kept o m (base + p) 1 now next → front o rows (λ k. at o m next (base + k)) ≡ write p x (at o m column)
-  copied_all start column base rows now next r p x l c h (a, b) here others =
-      sym (front_is o rows (λ k. at o m next (base + k)) (write p x (at o m column))
-      (λ k i. elim (ℕ_discrete k p) [
-        | yes e ↦ ap (write p x (at o m column)) e ∙ write_same p x (at o m column) ∙ sym here ∙ ap (λ j. at o m next (base + j)) (sym e)
-        | no n ↦ write_other p x (at o m column) k n ∙ sym (others (base + k) (λ w. n (omega arith)) ∙ a k (omega arith))
-      ])
-      (λ k i. write_other p x (at o m column) k (λ e. omega arith) ∙ at_past o m column k (omega arith)))
 
   at_of_take : (k : ℕ) (xs : List F) (r : ℕ) → r < k → at o m (take k xs) r ≡ at o m xs r
   at_of_take k xs r h = at_take k xs r ∙ front_low o k (at o m xs) r h

@@ -4,59 +4,112 @@
 ghost use Rattle.std.specs.Prelude.{◌≡◌, ℕ, ◌+◌, ◌*◌, ◌<◌, ◌≤◌, length};
 ghost use Rattle.tables.specs.Places.{at};
 ghost use Rattle.elimination.specs.Echelon.{Echelon, Relations, TakesNext, places_after};
-ghost use Rattle.elimination.specs.Steps.{column_at, entry_at, rank_after, AreSteps, Takes};
+ghost use Rattle.elimination.specs.Steps.{write, reduced, column_at, entry_at, rank_after, AreSteps, Takes};
 
-use crate::steps::{find_pivot, record_step, reduce};
+use crate::step::{Pivot, apply_step, factors_of, find_pivot};
 use fields::field::Field;
 
-pub mod steps;
+pub mod step;
 
-// Takes one more column: reduces it by the steps found so far, answers whether it is pivotal, and if it is, records the step that turns it into
-// the next unit vector.
-pub fn take_column<F: Field>(
-    rows: usize,
-    rank: usize,
-    steps: &mut [F],
-    pivots: &mut [usize],
-    column: &mut [F],
-) -> bool
-    requires room { (rows * rows ≤ length steps.old) × ((rows ≤ length pivots.old) × (length column.old ≡ rows)) }
-    requires valid { AreSteps F.ops rows rank (column_at F.ops F.member rows steps.old) (entry_at pivots.old) }
-    ensures { Takes F.ops rows rank (column_at F.ops F.member rows steps.old) (entry_at pivots.old) (at F.ops F.member column.old) (column_at F.ops F.member rows steps.new) (entry_at pivots.new) (at F.ops F.member column.new) result }
-{
-    reduce(rows, rank, steps, pivots, column);
-    match find_pivot(column, rank) {
-        None => false,
-        Some(pivot) => {
-            record_step(rows, rank, steps, column, pivot);
-            pivots[rank] = pivot.row;
-            true
-        }
-    }
+// The steps found so far, in lent tables: the numbers of step t from rows * t on, and its pivot row at place t.
+#[derive(Drop)]
+pub struct Steps<'a, F: Field> {
+    pub rows: usize,
+    pub rank: usize,
+    pub factors: &'a mut [F],
+    pub pivots: &'a mut [usize],
+    pub ghost room: { (rows * rows ≤ length factors.now) × (rows ≤ length pivots.now) },
+    pub ghost valid: { ∥ AreSteps F.ops rows rank (column_at F.ops F.member rows factors.now) (entry_at pivots.now) ∥₁ },
 }
 
-// Takes column q of a matrix, whose columns stand one behind the other.
-pub fn take_column_of<F: Field>(
-    rows: usize,
-    rank: usize,
-    steps: &mut [F],
-    pivots: &mut [usize],
-    matrix: &mut [F],
-    q: usize,
-) -> bool
-    requires room { (rows * rows ≤ length steps.old) × ((rows ≤ length pivots.old) × (rows * q + rows ≤ length matrix.old)) }
-    requires valid { AreSteps F.ops rows rank (column_at F.ops F.member rows steps.old) (entry_at pivots.old) }
-    ensures takes { Takes F.ops rows rank (column_at F.ops F.member rows steps.old) (entry_at pivots.old) (column_at F.ops F.member rows matrix.old q) (column_at F.ops F.member rows steps.new) (entry_at pivots.new) (column_at F.ops F.member rows matrix.new q) result }
-    ensures before { (k : ℕ) → k < rows * q → at F.ops F.member matrix.new k ≡ at F.ops F.member matrix.old k }
-    ensures behind { (k : ℕ) → rows * q + rows ≤ k → at F.ops F.member matrix.new k ≡ at F.ops F.member matrix.old k }
-{
-    take_column(
-        rows,
-        rank,
-        steps,
-        pivots,
-        &mut matrix[rows * q..rows * q + rows],
-    )
+impl<'a, F: Field> Steps<'a, F> {
+    // No steps yet, for columns of so many rows.
+    pub fn new(rows: usize, factors: &'a mut [F], pivots: &'a mut [usize]) -> Steps<'a, F>
+        requires { (rows * rows ≤ length factors.old) × (rows ≤ length pivots.old) }
+        ensures { (result.rows ≡ rows) × (result.rank ≡ 0) }
+    {
+        Steps {
+            rows,
+            rank: 0,
+            factors,
+            pivots,
+        }
+    }
+
+    // Brings a column up to date by the steps found so far.
+    pub fn reduce(&self, column: &mut [F])
+        requires { length column.old ≡ self.now.rows }
+        ensures { at F.ops F.member column.new ≡ reduced F.ops (column_at F.ops F.member self.now.rows self.now.factors.now) (entry_at self.now.pivots.now) self.now.rank (at F.ops F.member column.old) }
+    {
+        for (t, pivot) in self.pivots[..self.rank].iter().enumerate() {
+            apply_step(factors_of(self.rows, self.factors, t), t, *pivot, column);
+        }
+    }
+
+    // Writes the numbers of the step of a reduced column and its pivot behind those of the steps found so far.
+    pub fn record_step(&mut self, column: &[F], pivot: Pivot<F>)
+        requires room { (self.old.rank < self.old.rows) × ((length column.now ≡ self.old.rows) × (pivot.row < self.old.rows)) }
+        ensures here { column_at F.ops F.member self.old.rows self.new.factors.now self.old.rank ≡ write pivot.row (F.member pivot.inverse) (at F.ops F.member column.now) }
+        ensures others { (k : ℕ) → k < self.old.rows * self.old.rank → at F.ops F.member self.new.factors.now k ≡ at F.ops F.member self.old.factors.now k }
+        ensures kept { (self.new.rows ≡ self.old.rows) × ((self.new.rank ≡ self.old.rank) × (self.new.pivots.now ≡ self.old.pivots.now)) }
+    {
+        let start = self.rows * self.rank;
+        let step = &mut self.factors[start..start + self.rows];
+        step.copy_from_slice(column);
+        step[pivot.row] = pivot.inverse;
+    }
+
+    // Takes one more column: reduces it by the steps found so far, answers whether it is pivotal, and if it is, records the step that turns it into
+    // the next unit vector.
+    pub fn take_column(&mut self, column: &mut [F]) -> bool
+        requires { length column.old ≡ self.old.rows }
+        ensures takes { Takes F.ops self.old.rows self.old.rank (column_at F.ops F.member self.old.rows self.old.factors.now) (entry_at self.old.pivots.now) (at F.ops F.member column.old) (column_at F.ops F.member self.old.rows self.new.factors.now) (entry_at self.new.pivots.now) (at F.ops F.member column.new) result }
+        ensures counted { (self.new.rows ≡ self.old.rows) × (self.new.rank ≡ rank_after self.old.rank result) }
+    {
+        self.reduce(column);
+        let Some(pivot) = find_pivot(column, self.rank) else {
+            return false;
+        };
+        self.record_step(column, pivot);
+        self.pivots[self.rank] = pivot.row;
+        self.rank += 1;
+        true
+    }
+
+    // Takes column q of a matrix, whose columns stand one behind the other.
+    pub fn take_column_of(&mut self, matrix: &mut [F], q: usize) -> bool
+        requires { self.old.rows * q + self.old.rows ≤ length matrix.old }
+        ensures takes { Takes F.ops self.old.rows self.old.rank (column_at F.ops F.member self.old.rows self.old.factors.now) (entry_at self.old.pivots.now) (column_at F.ops F.member self.old.rows matrix.old q) (column_at F.ops F.member self.old.rows self.new.factors.now) (entry_at self.new.pivots.now) (column_at F.ops F.member self.old.rows matrix.new q) result }
+        ensures counted { (self.new.rows ≡ self.old.rows) × (self.new.rank ≡ rank_after self.old.rank result) }
+        ensures before { (k : ℕ) → k < self.old.rows * q → at F.ops F.member matrix.new k ≡ at F.ops F.member matrix.old k }
+        ensures behind { (k : ℕ) → self.old.rows * q + self.old.rows ≤ k → at F.ops F.member matrix.new k ≡ at F.ops F.member matrix.old k }
+    {
+        let start = self.rows * q;
+        self.take_column(&mut matrix[start..start + self.rows])
+    }
+
+    // Takes a column of a matrix as column q of all columns; if it is pivotal, q is written behind the places of the pivotal columns before it.
+    pub fn take_next(
+        &mut self,
+        places: &mut [usize],
+        matrix: &mut [F],
+        column: usize,
+        q: usize,
+    ) -> bool
+        requires room { (self.old.rows ≤ length places.old) × (self.old.rows * column + self.old.rows ≤ length matrix.old) }
+        ensures valid { AreSteps F.ops self.old.rows (rank_after self.old.rank result) (column_at F.ops F.member self.old.rows self.new.factors.now) (entry_at self.new.pivots.now) }
+        ensures bound { rank_after self.old.rank result ≤ self.old.rows }
+        ensures placed { places.new ≡ places_after self.old.rank q places.old result }
+        ensures takes { TakesNext F.ops self.old.rows q self.old.rank (column_at F.ops F.member self.old.rows self.old.factors.now) (entry_at self.old.pivots.now) places.old (column_at F.ops F.member self.old.rows matrix.old column) (column_at F.ops F.member self.old.rows self.new.factors.now) (entry_at self.new.pivots.now) (column_at F.ops F.member self.old.rows matrix.new column) result }
+        ensures counted { (self.new.rows ≡ self.old.rows) × (self.new.rank ≡ rank_after self.old.rank result) }
+        ensures before { (k : ℕ) → k < self.old.rows * column → at F.ops F.member matrix.new k ≡ at F.ops F.member matrix.old k }
+        ensures behind { (k : ℕ) → self.old.rows * column + self.old.rows ≤ k → at F.ops F.member matrix.new k ≡ at F.ops F.member matrix.old k }
+    {
+        let rank = self.rank;
+        let pivotal = self.take_column_of(matrix, column);
+        note_place(places, rank, q, pivotal);
+        pivotal
+    }
 }
 
 // Writes the place of column q behind those of the pivotal columns before it, if it is pivotal.
@@ -69,49 +122,23 @@ fn note_place(places: &mut [usize], rank: usize, q: usize, pivotal: bool)
     }
 }
 
-// Takes a column of a matrix as column q of all columns; if it is pivotal, q is written behind the places of the pivotal columns before it.
-pub fn take_next<F: Field>(
-    rows: usize,
-    rank: usize,
-    steps: &mut [F],
-    pivots: &mut [usize],
-    places: &mut [usize],
-    matrix: &mut [F],
-    column: usize,
-    q: usize,
-) -> bool
-    requires room { (rows * rows ≤ length steps.old) × ((rows ≤ length pivots.old) × ((rows ≤ length places.old) × (rows * column + rows ≤ length matrix.old))) }
-    requires valid { AreSteps F.ops rows rank (column_at F.ops F.member rows steps.old) (entry_at pivots.old) }
-    ensures valid { AreSteps F.ops rows (rank_after rank result) (column_at F.ops F.member rows steps.new) (entry_at pivots.new) }
-    ensures bound { rank_after rank result ≤ rows }
-    ensures placed { places.new ≡ places_after rank q places.old result }
-    ensures takes { TakesNext F.ops rows q rank (column_at F.ops F.member rows steps.old) (entry_at pivots.old) places.old (column_at F.ops F.member rows matrix.old column) (column_at F.ops F.member rows steps.new) (entry_at pivots.new) (column_at F.ops F.member rows matrix.new column) result }
-    ensures before { (k : ℕ) → k < rows * column → at F.ops F.member matrix.new k ≡ at F.ops F.member matrix.old k }
-    ensures behind { (k : ℕ) → rows * column + rows ≤ k → at F.ops F.member matrix.new k ≡ at F.ops F.member matrix.old k }
-{
-    let pivotal = take_column_of(rows, rank, steps, pivots, matrix, column);
-    note_place(places, rank, q, pivotal);
-    pivotal
-}
-
 // Reduces every column of a matrix, whose columns stand one behind the other. Answers the rank, and writes the places of the pivotal columns.
 pub fn eliminate<F: Field>(
     rows: usize,
     columns: usize,
     matrix: &mut [F],
-    steps: &mut [F],
+    factors: &mut [F],
     pivots: &mut [usize],
     places: &mut [usize],
 ) -> usize
-    requires room { (rows * columns ≤ length matrix.old) × ((rows * rows ≤ length steps.old) × ((rows ≤ length pivots.old) × (rows ≤ length places.old))) }
+    requires room { (rows * columns ≤ length matrix.old) × ((rows * rows ≤ length factors.old) × ((rows ≤ length pivots.old) × (rows ≤ length places.old))) }
     ensures echelon { Echelon F.ops rows (column_at F.ops F.member rows matrix.old) columns result (entry_at places.new) }
     ensures relations { Relations F.ops rows (column_at F.ops F.member rows matrix.old) (column_at F.ops F.member rows matrix.new) columns result (entry_at places.new) }
 {
-    let mut rank = 0;
+    let mut steps = Steps::new(rows, factors, pivots);
+    // By the index, since chunks of no rows are refused, and a proof does not know what a loop over lent chunks leaves in the matrix.
     for q in 0..columns {
-        if take_next(rows, rank, steps, pivots, places, matrix, q, q) {
-            rank += 1;
-        }
+        steps.take_next(places, matrix, q, q);
     }
-    rank
+    steps.rank
 }

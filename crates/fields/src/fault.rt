@@ -3,6 +3,7 @@ ghost use Rattle.std.specs.Prelude.{◌≡◌, ℕ};
 ghost use Rattle.fields.specs.Faults.{layer_number, field_number, field_layer, field_place};
 ghost use Rattle.fields.specs.declared.fault.Layer.{Layer};
 
+use std::error::Error;
 use std::fmt;
 
 // The layer whose rule a refused call broke.
@@ -74,6 +75,8 @@ impl fmt::Display for FieldFault {
         write!(f, "the code is not below the field's size")
     }
 }
+
+impl Error for FieldFault {}
 
 // A refusal as text: its number, layer, place and reason.
 #[derive(Drop)]

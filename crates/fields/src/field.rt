@@ -40,8 +40,7 @@ pub trait Field: Copy {
 
     // Absent for zero only.
     fn inverse(self) -> Option<Self>
-        ensures value { Inverts ops (member self) (option_map member result) }
-        ensures invertible { Invertible ops };
+        ensures { Inverts ops (member self) (option_map member result) };
 
     // Whether both mean one member.
     fn same(self, other: Self) -> bool
@@ -64,6 +63,8 @@ pub trait Field: Copy {
         ensures limits { (1 ≤ tag) × (tag ≤ 255) };
 
     ghost laws: { FieldLaws ops };
+
+    ghost invertible: { Invertible ops };
 
     ghost numbered: { Numbering ops order number };
 }

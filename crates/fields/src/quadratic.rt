@@ -13,12 +13,13 @@ pub trait Quadratic: Field {
     ghost constant: { Self };
 
     fn t() -> Self
-        ensures value { Self.Field.member result ≡ Self.Field.member linear }
-        ensures rootless { Rootless Self.Field.ops (Self.Field.member linear) (Self.Field.member constant) }
-        ensures limits { (Self.Field.order ≤ 256) × (Self.Field.tag ≤ 253) };
+        ensures { Self.Field.member result ≡ Self.Field.member linear };
 
     fn c() -> Self
-        ensures value { Self.Field.member result ≡ Self.Field.member constant }
-        ensures rootless { Rootless Self.Field.ops (Self.Field.member linear) (Self.Field.member constant) }
-        ensures limits { (Self.Field.order ≤ 256) × (Self.Field.tag ≤ 253) };
+        ensures { Self.Field.member result ≡ Self.Field.member constant };
+
+    ghost rootless: { Rootless Self.Field.ops (Self.Field.member linear) (Self.Field.member constant) };
+
+    // The codes and the kind of pairs fit their types.
+    ghost limits: { (Self.Field.order ≤ 256) × (Self.Field.tag ≤ 253) };
 }

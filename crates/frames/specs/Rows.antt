@@ -1,5 +1,5 @@
 -- A row of generators, its greatest common divisor and the row divided by it, where they stand in the tables. The clauses of `divide_by_gcd` cite it, and those of frames the columns.
-use Rattle.std.specs.Prelude.{◌≡◌, ℕ, ◌+◌, ◌*◌, max, ◌⊎◌, List, Some, None, Option}
+use Rattle.std.specs.Prelude.{◌≡◌, ℕ, ◌+◌, ◌*◌, ◌⊎◌, List}
 use Rattle.algebra.specs.Rings.{RingOps}
 use Rattle.algebra.specs.Divisors.{MonicGcd, DividedRow, VectorDegree, AllZero}
 use Rattle.algebra.specs.Series.{Degree}
@@ -28,11 +28,6 @@ quotient_in o member work i = poly_at o member work (4385 + 17 * i) 17
 -- every place outside a part holds zero
 abbrev pub ZeroOutside : {F R : Type 0} → RingOps R → (F → R) → ℕ → ℕ → List F → Type 0
 ZeroOutside o member base width xs = (k : ℕ) → (Within base width k → ⊥) → at o member xs k ≡ o.zero
-
--- r is the larger of d and what was found
-abbrev pub Larger : ℕ → Option ℕ → ℕ → Type 0
-Larger d None r = r ≡ d
-Larger d (Some k) r = r ≡ max d k
 
 -- d is the highest degree of the row, or all of it is zero
 abbrev pub Highest : {R : Type 0} → RingOps R → ℕ → (ℕ → ℕ → R) → ℕ → Type 0

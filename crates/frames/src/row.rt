@@ -1,29 +1,24 @@
 // The monic greatest common divisor of a row of generators, and the row divided by it, in a work table.
-ghost use Rattle.std.specs.Prelude.{◌≡◌, ℕ, ◌+◌, ◌*◌, ◌<◌, ◌≤◌, length, MatchOption};
+ghost use Rattle.std.specs.Prelude.{◌≡◌, ℕ, ◌*◌, ◌<◌, ◌≤◌, length, MatchOption};
 ghost use Rattle.algebra.specs.Divisors.{Divides, AllZero};
 ghost use Rattle.algebra.specs.Series.{series, Degree};
-ghost use Rattle.tables.specs.Places.{Cleared, Kept};
+ghost use Rattle.tables.specs.Places.{at, Cleared};
 ghost use Rattle.frames.specs.Common.{GcdOfFirst, MadeMonic};
-ghost use Rattle.frames.specs.Rows.{generator_in, gcd_in, quotient_in, row_in, ZeroOutside, Larger, Highest, DividedByGcd};
+ghost use Rattle.frames.specs.Rows.{generator_in, row_in, Highest, DividedByGcd};
 
 use crate::euclid::euclid;
 use fields::field::Field;
 use polynomials::{degree, divide_exactly};
 use tables::cells::inverse_at;
 use tables::clear;
-use tables::rows::{copy_from, scale};
-
-// How many coefficients a polynomial has.
-const WIDTH: usize = 17;
-
-// Where a generator stands while it is worked on.
-const SPARE: usize = 0;
+use tables::rows::scale;
+use tables::sizes::{GENERATORS, WIDTH, WORK};
 
 // Where the divisor stands in the work table.
 pub const DIVISOR: usize = 4368;
 
 // Where the divided row begins in the work table.
-pub const ROW: usize = 4385;
+pub const ROW: usize = DIVISOR + WIDTH;
 
 // The degrees of a row's greatest common divisor and of the row divided by it.
 #[derive(Clone, Copy, PartialEq, Eq, Debug)]
@@ -32,70 +27,64 @@ pub struct Degrees {
     pub row: usize,
 }
 
-// Leaves in a cleared work table a greatest common divisor of the first n generators.
-fn gather<F: Field>(n: usize, generators: &[F], work: &mut [F])
-    requires room { (n ≤ 8) × ((length generators.now ≡ 136) × (length work.old ≡ 4521)) }
-    requires cleared { Cleared F.ops F.member work.old }
-    ensures divisors { GcdOfFirst F.ops n (generator_in F.ops F.member generators.now) (gcd_in F.ops F.member work.new) }
-    ensures rest { ZeroOutside F.ops F.member 4368 17 work.new }
+// Leaves where zero stood a greatest common divisor of the first n generators.
+fn gather<F: Field>(n: usize, generators: &[F], spare: &mut [F], divisor: &mut [F])
+    requires room { (WIDTH * n ≤ length generators.now) × ((length spare.old ≡ WIDTH) × (length divisor.old ≡ WIDTH)) }
+    requires cleared { (at F.ops F.member spare.old ≡ (series F.ops).zero) × (at F.ops F.member divisor.old ≡ (series F.ops).zero) }
+    ensures divisors { GcdOfFirst F.ops n (generator_in F.ops F.member generators.now) (at F.ops F.member divisor.new) }
+    ensures rest { at F.ops F.member spare.new ≡ (series F.ops).zero }
 {
-    for i in 0..n {
-        copy_from(generators, WIDTH * i, work, SPARE, WIDTH);
-        euclid(work, DIVISOR, SPARE, WIDTH);
+    for generator in generators[..WIDTH * n].chunks_exact(WIDTH) {
+        spare.copy_from_slice(generator);
+        euclid(divisor, spare);
     }
 }
 
 // Makes the divisor monic and answers its degree; a divisor that is zero stays.
-fn make_monic<F: Field>(work: &mut [F]) -> Option<usize>
-    requires { length work.old ≡ 4521 }
-    ensures monic { MadeMonic F.ops (gcd_in F.ops F.member work.old) (gcd_in F.ops F.member work.new) result }
-    ensures others { Kept F.ops F.member 4368 17 work.old work.new }
+fn make_monic<F: Field>(divisor: &mut [F]) -> Option<usize>
+    requires { length divisor.old ≡ WIDTH }
+    ensures { MadeMonic F.ops (at F.ops F.member divisor.old) (at F.ops F.member divisor.new) result }
 {
-    match degree(work, DIVISOR, WIDTH) {
-        None => None,
-        Some(e) => {
-            let inverse = inverse_at(work, DIVISOR + e);
-            scale(work, DIVISOR, WIDTH, inverse);
-            Some(e)
-        }
-    }
+    let e = degree(divisor)?;
+    let inverse = inverse_at(divisor, e);
+    scale(divisor, inverse);
+    Some(e)
 }
 
 // Divides the first n generators by the divisor, of degree e, which divides them.
-fn divide_row<F: Field>(n: usize, generators: &[F], e: usize, work: &mut [F])
-    requires room { (n ≤ 8) × ((length generators.now ≡ 136) × ((length work.old ≡ 4521) × (e < 17))) }
-    requires degree { Degree F.ops (gcd_in F.ops F.member work.old) e }
-    requires divides { (i : ℕ) → i < n → Divides F.ops (gcd_in F.ops F.member work.old) (generator_in F.ops F.member generators.now i) }
-    requires cleared { ZeroOutside F.ops F.member 4368 17 work.old }
-    ensures row { (i : ℕ) → i < n → (series F.ops).product (gcd_in F.ops F.member work.old) (quotient_in F.ops F.member work.new i) ≡ generator_in F.ops F.member generators.now i }
-    ensures same { gcd_in F.ops F.member work.new ≡ gcd_in F.ops F.member work.old }
-    ensures rest { ZeroOutside F.ops F.member 4368 (17 + 17 * n) work.new }
+fn divide_row<F: Field>(
+    n: usize,
+    generators: &[F],
+    spare: &mut [F],
+    divisor: &[F],
+    e: usize,
+    row: &mut [F],
+)
+    requires room { (WIDTH * n ≤ length generators.now) × ((length spare.old ≡ WIDTH) × (WIDTH * n ≤ length row.old)) }
+    requires degree { Degree F.ops (at F.ops F.member divisor.now) e }
+    requires divides { (i : ℕ) → i < n → Divides F.ops (at F.ops F.member divisor.now) (generator_in F.ops F.member generators.now i) }
+    requires cleared { (at F.ops F.member spare.old ≡ (series F.ops).zero) × (Cleared F.ops F.member row.old) }
+    ensures row { (i : ℕ) → i < n → (series F.ops).product (at F.ops F.member divisor.now) (row_in F.ops F.member row.new 0 i) ≡ generator_in F.ops F.member generators.now i }
+    ensures behind { (k : ℕ) → WIDTH * n ≤ k → at F.ops F.member row.new k ≡ F.ops.zero }
+    ensures rest { at F.ops F.member spare.new ≡ (series F.ops).zero }
 {
-    for i in 0..n {
-        copy_from(generators, WIDTH * i, work, SPARE, WIDTH);
-        divide_exactly(work, SPARE, DIVISOR, e, ROW + WIDTH * i, WIDTH);
+    for (i, generator) in generators[..WIDTH * n].chunks_exact(WIDTH).enumerate() {
+        // A proof knows nothing of what was written through `chunks_exact_mut`.
+        let start = WIDTH * i;
+        spare.copy_from_slice(generator);
+        divide_exactly(spare, divisor, e, &mut row[start..start + WIDTH]);
     }
 }
 
-// The larger of a degree and another, if there is one.
-fn larger(d: usize, found: Option<usize>) -> usize
-    ensures { Larger d found result }
-{
-    match found {
-        None => d,
-        Some(k) => { if k > d { k } else { d } }
-    }
-}
-
-// The highest degree of n polynomials that stand one behind the other from a place on; 0 where every one is zero.
-pub fn row_degree<F: Field>(n: usize, table: &[F], base: usize) -> usize
-    requires { base + 17 * n ≤ length table.now }
-    ensures value { Highest F.ops n (row_in F.ops F.member table.now base) result }
+// The highest degree of the first n polynomials of a row; 0 where every one is zero.
+pub fn row_degree<F: Field>(n: usize, row: &[F]) -> usize
+    requires { WIDTH * n ≤ length row.now }
+    ensures value { Highest F.ops n (row_in F.ops F.member row.now 0) result }
     ensures bound { result ≤ 16 }
 {
     let mut d = 0;
-    for i in 0..n {
-        d = larger(d, degree(table, base + WIDTH * i, WIDTH));
+    for part in row[..WIDTH * n].chunks_exact(WIDTH) {
+        d = d.max(degree(part).unwrap_or(0));
     }
     d
 }
@@ -103,19 +92,18 @@ pub fn row_degree<F: Field>(n: usize, table: &[F], base: usize) -> usize
 // Writes the monic greatest common divisor of the first n generators and the row divided by it into the work table, whose other places become zero,
 // and answers their degrees; absent where every generator is zero.
 pub fn divide_by_gcd<F: Field>(n: usize, generators: &[F], work: &mut [F]) -> Option<Degrees>
-    requires { (n ≤ 8) × ((length generators.now ≡ 136) × (length work.old ≡ 4521)) }
+    requires { (n ≤ 8) × ((length generators.now ≡ GENERATORS) × (length work.old ≡ WORK)) }
     ensures { MatchOption result (AllZero F.ops n (generator_in F.ops F.member generators.now) × Cleared F.ops F.member work.new) (λ d. DividedByGcd F.ops F.member n generators.now work.new d.divisor d.row) }
 {
     clear(work);
-    gather(n, generators, work);
-    match make_monic(work) {
-        None => None,
-        Some(e) => {
-            divide_row(n, generators, e, work);
-            Some(Degrees {
-                divisor: e,
-                row: row_degree(n, work, ROW),
-            })
-        }
-    }
+    let (tables, row) = work.split_at_mut(ROW);
+    let (front, divisor) = tables.split_at_mut(DIVISOR);
+    let (spare, _) = front.split_at_mut(WIDTH);
+    gather(n, generators, spare, divisor);
+    let e = make_monic(divisor)?;
+    divide_row(n, generators, spare, divisor, e, row);
+    Some(Degrees {
+        divisor: e,
+        row: row_degree(n, row),
+    })
 }

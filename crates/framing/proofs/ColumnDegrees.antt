@@ -14,7 +14,7 @@ module _ {F R : Type 0} (o : RingOps R) (member : F → R) (n : ℕ) (frame : Li
   pub degrees_none : (j : ℕ) → j ≡ n → DegreesFrom o member n frame j 0
   degrees_none j e = record { degrees = []; count = omega arith; is = refl; column = λ k h. absurd (omega arith) }
 
-  pub degrees_more : (j d p : ℕ) → j < n → VectorDegree o n (column_in o member frame j) d → DegreesFrom o member n frame (j + 1) p → DegreesFrom o member n frame j (d + 256 * p)
+  pub degrees_more : (j d p : ℕ) → j < n → VectorDegree o n (column_in o member frame j) d → DegreesFrom o member n frame (suc j) p → DegreesFrom o member n frame j (d + 256 * p)
   degrees_more j d p h first rest =
       record {
         degrees = d ∷ rest.degrees;
@@ -25,13 +25,13 @@ module _ {F R : Type 0} (o : RingOps R) (member : F → R) (n : ℕ) (frame : Li
     where
       column : (k : ℕ) → j + k < n → VectorDegree o n (column_in o member frame (j + k)) (get_or (d ∷ rest.degrees) k 0)
       column zero l = subst (λ (i : ℕ). VectorDegree o n (column_in o member frame i) d) (let z : j ≡ j + 0 = omega arith in z) first
-      column (suc k) l = subst (λ (i : ℕ). VectorDegree o n (column_in o member frame i) (get_or rest.degrees k 0)) (let z : j + 1 + k ≡ j + suc k = omega arith in z) (rest.column k (omega arith))
+      column (suc k) l = subst (λ (i : ℕ). VectorDegree o n (column_in o member frame i) (get_or rest.degrees k 0)) (let z : suc j + k ≡ j + suc k = omega arith in z) (rest.column k (omega arith))
 
 -- one byte more
-pub packed_below : (n j d p : ℕ) → j < n → d ≤ 16 → p < 256 ^ (n - (j + 1)) → d + 256 * p < 256 ^ (n - j)
+pub packed_below : (n j d p : ℕ) → j < n → d ≤ 16 → p < 256 ^ (n - suc j) → d + 256 * p < 256 ^ (n - j)
 packed_below n j d p h low below =
-    let s : n - j ≡ suc (n - (j + 1)) = omega arith in
-    let e : 256 ^ (n - j) ≡ 256 * 256 ^ (n - (j + 1)) = ap (λ k. 256 ^ k) s ∙ pow-succ' 256 (n - (j + 1)) in
+    let s : n - j ≡ suc (n - suc j) = omega arith in
+    let e : 256 ^ (n - j) ≡ 256 * 256 ^ (n - suc j) = ap (λ k. 256 ^ k) s ∙ pow-succ' 256 (n - suc j) in
     omega arith
 
 pub eight_bytes : (k : ℕ) → k ≤ 8 → 256 ^ k ≤ 2 ^ 64

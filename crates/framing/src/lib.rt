@@ -1,26 +1,43 @@
 // The frame of a row of generators, whole, in lent tables.
 #![tactic(auto)]
 
-ghost use Rattle.std.specs.Prelude.{◌≡◌, ◌≤◌, length, MatchOption};
+ghost use Rattle.std.specs.Prelude.{◌≡◌, ℕ, ◌<◌, ◌≤◌, length, MatchOption};
 ghost use Rattle.algebra.specs.Divisors.{AllZero};
 ghost use Rattle.frames.specs.Rows.{generator_in};
 ghost use Rattle.tables.specs.Places.{Cleared};
-ghost use Rattle.framing.specs.Framing.{HoldsFrame};
+ghost use Rattle.framing.specs.Framing.{column_in, DegreesFrom, HoldsFrame};
 
 use crate::packing::pack_degrees;
 use fields::field::Field;
-use frames::row::divide_by_gcd;
+use frames::row::{Degrees, divide_by_gcd};
 use scan::write_frame;
 use tables::clear;
+use tables::sizes::{FRAME, GENERATORS, WORK};
 
 pub mod packing;
 
 // What is known of a frame: the degree of the divided generators, that of the divisor, and those of the columns, packed.
-#[derive(Clone, Copy)]
+#[derive(Clone, Copy, PartialEq, Eq, Debug)]
 pub struct Numbers {
     pub degree: usize,
     pub divisor: usize,
     pub columns: u64,
+}
+
+impl Numbers {
+    // The numbers of the n columns of a frame table, by the degrees of the divided generators and of the divisor.
+    pub fn of<F: Field>(n: usize, degrees: Degrees, frame: &[F]) -> Numbers
+        requires room { (n ≤ 8) × (length frame.now ≡ FRAME) }
+        requires nonzero { (k : ℕ) → k < n → AllZero F.ops n (column_in F.ops F.member frame.now k) → ⊥ }
+        ensures degrees { (result.degree ≡ degrees.row) × (result.divisor ≡ degrees.divisor) }
+        ensures columns { DegreesFrom F.ops F.member n frame.now 0 result.columns }
+    {
+        Numbers {
+            degree: degrees.row,
+            divisor: degrees.divisor,
+            columns: pack_degrees(n, frame, 0),
+        }
+    }
 }
 
 // Writes the frame of the first n generators, absent where they are all zero, and leaves the work table at zero.
@@ -31,22 +48,12 @@ pub fn frame_row<F: Field>(
     work: &mut [F],
 ) -> Option<Numbers>
     requires sized { (2 ≤ n) × (n ≤ 8) }
-    requires room { (length generators.now ≡ 136) × ((length frame.old ≡ 1105) × (length work.old ≡ 4521)) }
+    requires room { (length generators.now ≡ GENERATORS) × ((length frame.old ≡ FRAME) × (length work.old ≡ WORK)) }
     ensures answer { MatchOption result (AllZero F.ops n (generator_in F.ops F.member generators.now) × (frame.new ≡ frame.old)) (λ x. HoldsFrame F.ops F.member n generators.now frame.new x.degree x.divisor x.columns) }
     ensures cleared { Cleared F.ops F.member work.new }
 {
-    // Its contract promises that each member but zero has an inverse.
-    let _ = F::one().inverse();
-    match divide_by_gcd(n, generators, work) {
-        None => None,
-        Some(degrees) => {
-            write_frame(n, degrees.row, work, frame);
-            clear(work);
-            Some(Numbers {
-                degree: degrees.row,
-                divisor: degrees.divisor,
-                columns: pack_degrees(n, frame, 0),
-            })
-        }
-    }
+    let degrees = divide_by_gcd(n, generators, work)?;
+    write_frame(n, degrees.row, work, frame);
+    clear(work);
+    Some(Numbers::of(n, degrees, frame))
 }

@@ -5,17 +5,18 @@ ghost use Rattle.framing.specs.Framing.{column_in, DegreesFrom};
 
 use fields::field::Field;
 use frames::row::row_degree;
+use tables::sizes::{FRAME, GENERATORS};
 
 // The degrees of the columns from j on, that of the first in the lowest byte.
 pub fn pack_degrees<F: Field>(n: usize, frame: &[F], j: usize) -> u64
-    requires room { (j ≤ n) × ((n ≤ 8) × (length frame.now ≡ 1105)) }
+    requires room { (j ≤ n) × ((n ≤ 8) × (length frame.now ≡ FRAME)) }
     requires nonzero { (k : ℕ) → k < n → AllZero F.ops n (column_in F.ops F.member frame.now k) → ⊥ }
     ensures degrees { DegreesFrom F.ops F.member n frame.now j result }
     ensures bound { result < 256 ^ (n - j) }
 {
-    if j == n {
-        return 0;
+    let mut packed = 0;
+    for k in (j..n).rev() {
+        packed = row_degree(n, &frame[GENERATORS * k..]) as u64 + 256 * packed;
     }
-    let degree = row_degree(n, frame, 136 * j) as u64;
-    degree + 256 * pack_degrees(n, frame, j + 1)
+    packed
 }

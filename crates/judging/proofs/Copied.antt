@@ -1,5 +1,5 @@
 -- The test by degrees reads only the first rows and columns. Main results: test_of_copy (columns with the same first rows pass it too), columns_nonzero.
-use Rattle.std.proofs.Common.{◌≡◌, ℕ, zero, suc, ◌-◌, ◌<◌, ◌≤◌, sym, ap, ◌∙◌, subst, suc-le-suc, zero-le, le_of_suc-le-suc, arith}
+use Rattle.std.proofs.Common.{◌≡◌, ℕ, zero, suc, ◌+◌, ◌-◌, ◌*◌, ◌<◌, ◌≤◌, List, drop, sym, ap, ◌∙◌, subst, suc-le-suc, zero-le, le_of_suc-le-suc, arith}
 use Rattle.algebra.specs.Rings.{RingOps, RingLaws, IsField}
 use Rattle.algebra.specs.Series.{dot, series, Below}
 use Rattle.algebra.specs.Divisors.{AllZero, MonicGcd, VectorDegree}
@@ -7,6 +7,11 @@ use Rattle.algebra.specs.DegreeTest.{PassesTest}
 use Rattle.algebra.proofs.Series as S
 use Rattle.algebra.proofs.Spans.{dot_ext}
 use Rattle.algebra.proofs.Sums as Sums
+use Rattle.std.specs.List.{between}
+use Rattle.tables.specs.Places.{at}
+use Rattle.tables.proofs.Parts.{poly_at_in, poly_at_is, poly_at_below}
+use Rattle.tables.proofs.Slices.{at_take, at_drop}
+use Rattle.frames.specs.Rows.{row_in}
 use Rattle.judging.proofs.Exactness.{first_nonzero}
 use Rattle.judging.proofs.LeadingTest.{independent_ext}
 
@@ -57,3 +62,16 @@ module _ {M : Type 0} (o : RingOps M) (field : IsField o) where
   columns_nonzero n a g d c two gcd t j h none =
       let e : n ≡ suc (n - 1) = omega arith in
       nonzero_at (n - 1) a g d c (subst (λ (k : ℕ). MonicGcd o k a g) e gcd) t j (omega arith) (subst (λ (k : ℕ). AllZero o k (c j)) e none)
+
+-- a column in a part of a table, `&table[base..end]`
+pub dot_range : {F M : Type 0} (o : RingOps M) (L : RingLaws o) (member : F → M) (a : ℕ → ℕ → M) (table : List F) (base end n : ℕ) → base + 17 * n ≤ end
+    → dot (series o) n a (row_in o member (between base end table) 0) ≡ dot (series o) n a (row_in o member table base)
+dot_range o L member a table base end n room =
+    dot_ext (series o) (S.series_laws o L) n a (row_in o member (between base end table) 0) (row_in o member table base)
+    (λ i l.
+    poly_at_is o member (between base end table) (0 + 17 * i) 17 (row_in o member table base i) (poly_at_below o member table (base + 17 * i) 17)
+    (λ k h.
+    at_take o member (end - base) (drop base table) (0 + 17 * i + k) (omega arith)
+    ∙ at_drop o member base table (0 + 17 * i + k)
+    ∙ ap (at o member table) (let e : base + (0 + 17 * i + k) ≡ base + 17 * i + k = omega arith in e)
+    ∙ sym (poly_at_in o member table (base + 17 * i) 17 k h)))

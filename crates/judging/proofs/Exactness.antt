@@ -1,5 +1,5 @@
 -- What the answers to the questions say of degree-optimal columns. Main results: test_passed and passed_optimal (all answered yes), objects_never (one answered no).
-use Rattle.std.proofs.Common.{◌≡◌, ℕ, zero, suc, ◌-◌, ◌<◌, ◌≤◌, sym, refl, ap, ◌∙◌, subst, suc-le-suc, le_of_suc-le-suc, not-suc-le-zero, arith}
+use Rattle.std.proofs.Common.{◌≡◌, ℕ, zero, suc, ◌+◌, ◌-◌, ◌*◌, ◌<◌, ◌≤◌, List, sym, refl, ap, ◌∙◌, subst, suc-le-suc, le_of_suc-le-suc, not-suc-le-zero, arith}
 use Rattle.algebra.specs.Rings.{RingOps, RingLaws, IsField}
 use Rattle.algebra.specs.Series.{dot, series, Polynomial}
 use Rattle.algebra.specs.Divisors.{AllZero, MonicGcd}
@@ -10,6 +10,9 @@ use Rattle.algebra.proofs.OptimalFrames.{vector_degree_unique}
 use Rattle.algebra.proofs.Series as S
 use Rattle.algebra.proofs.Sums as Sums
 use Rattle.algebra.proofs.TestExact.{test_exact}
+use Rattle.tables.proofs.Parts.{poly_at_below}
+use Rattle.frames.specs.Rows.{generator_in, gcd_in, quotient_in, DividedByGcd}
+use Rattle.framing.specs.Framing.{column_in}
 use Rattle.judging.specs.declared.objection.Objection.{Objection}
 use Rattle.judging.specs.Columns.{AllSyzygies, LowestNoSyzygy}
 use Rattle.judging.specs.Questions.{InDegree, FirstOutside, ObjectsByDegree, not_in_degree, first_inside}
@@ -95,3 +98,11 @@ module _ {M : Type 0} (o : RingOps M) (field : IsField o) where
   -- no degree-optimal columns meet an objection
   pub objects_never : (n : ℕ) (a : ℕ → ℕ → M) (c : ℕ → ℕ → ℕ → M) (x : Objection) → 2 ≤ n → ((j i : ℕ) → Polynomial o (c j i)) → Objects o n (n - 1) a c x → OptimalFor o (n - 1) a c → ⊥
   objects_never n a c x two polynomials objects optimal = never (n - 1) a c polynomials optimal.0 optimal.1 x (subst (λ (k : ℕ). Objects o k (n - 1) a c x) (one_more n two) objects)
+
+module _ {F M : Type 0} (o : RingOps M) (member : F → M) where
+  -- what dividing by the gcd leaves in the work table
+  pub row_divided : (n e d : ℕ) (generators work : List F) → DividedByGcd o member n generators work e d → RowOf o n (generator_in o member generators) (gcd_in o member work) d
+  row_divided n e d generators work all = record { gcd = all.gcd; row = quotient_in o member work; divided = all.divided; degree = all.highest }
+
+  pub column_polynomial : (table : List F) (j i : ℕ) → Polynomial o (column_in o member table j i)
+  column_polynomial table j i = (17, poly_at_below o member table (136 * j + 17 * i) 17)

@@ -1,6 +1,6 @@
 -- Vectors taken by elimination, one behind the other. Main results: pivotal_more (a pivotal vector joins the others), non_pivotal (another makes them
 -- dependent), outside_tells.
-use Rattle.std.proofs.Common.{◌≡◌, ℕ, suc, ◌*◌, ◌<◌, ◌≤◌, Bool, true, false, sym, ap, ◌∙◌, ap₂, mul-le-mul, arith}
+use Rattle.std.proofs.Common.{◌≡◌, ℕ, suc, ◌<◌, Bool, true, false, sym, ap, ◌∙◌, ap₂, arith}
 use native.Mathlib.Decide.{ℕ_discrete}
 use Rattle.algebra.specs.Rings.{RingOps, RingLaws, IsField}
 use Rattle.algebra.specs.Series.{total}
@@ -13,9 +13,6 @@ use Rattle.elimination.specs.Steps.{write, Reduces, Takes}
 use Rattle.elimination.proofs.Relations.{reduces_ext}
 use Rattle.elimination.proofs.StepMaps.{write_same, write_other}
 use Rattle.judging.specs.Answers.{Tells}
-
-pub square_room : (n : ℕ) → n ≤ 8 → n * n ≤ 64
-square_room n h = mul-le-mul {n₁ = n} {m₁ = n} {n₂ = 8} {m₂ = 8} h h
 
 module _ {M : Type 0} (o : RingOps M) (field : IsField o) where
   abbrev L : RingLaws o

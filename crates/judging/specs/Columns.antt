@@ -3,7 +3,7 @@ use Rattle.std.specs.Prelude.{◌≡◌, ℕ, suc, ◌<◌, ◌≤◌, List}
 use Rattle.algebra.specs.Rings.{RingOps}
 use Rattle.algebra.specs.Series.{sum_below}
 use Rattle.algebra.specs.Optimal.{Syzygy}
-use Rattle.elimination.specs.Steps.{column_at, entry_at, AreSteps, Reduces}
+use Rattle.elimination.specs.Steps.{entry_at}
 use Rattle.framing.specs.Framing.{column_in}
 
 -- the row sends every check column to zero
@@ -38,8 +38,3 @@ coefficients_in o member offered j degree i = column_in o member offered j i deg
 -- the leading vector of the check column behind j others
 abbrev pub check_leading : {F M : Type 0} → RingOps M → (F → M) → List F → List ℕ → ℕ → ℕ → M
 check_leading o member offered degrees j = coefficients_in o member offered (suc j) (check_degree degrees j)
-
--- the steps turn the leading vectors of the first count check columns into the unit vectors
-pub record Eliminates {F M : Type 0} (o : RingOps M) (member : F → M) (n count : ℕ) (offered : List F) (degrees : List ℕ) (steps : List F) (pivots : List ℕ) : Type 0 where
-  pub are : AreSteps o n count (column_at o member n steps) (entry_at pivots)
-  pub reduces : Reduces o n count (column_at o member n steps) (entry_at pivots) (check_leading o member offered degrees)

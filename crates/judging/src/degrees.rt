@@ -3,52 +3,61 @@ ghost use Rattle.std.specs.Prelude.{◌≡◌, ℕ, ◌-◌, ◌<◌, ◌≤◌,
 ghost use Rattle.elimination.specs.Steps.{entry_at};
 ghost use Rattle.frames.specs.Rows.{Highest};
 ghost use Rattle.framing.specs.Framing.{column_in};
+ghost use Rattle.tables.specs.declared.sizes.TheConstants.{COLUMNS};
 ghost use Rattle.judging.specs.Answers.{Tells};
 ghost use Rattle.judging.specs.Columns.{check_degree, InOrder, NoHigher};
 
+use crate::offer::Offer;
 use fields::field::Field;
 use frames::row::row_degree;
 
-// Writes the degrees of the first n columns, 0 for one that is zero.
-pub(crate) fn write_degrees<F: Field>(n: usize, offered: &[F], degrees: &mut [usize])
-    requires room { (n ≤ 8) × ((length offered.now ≡ 1088) × (length degrees.old ≡ 8)) }
-    ensures degrees { (j : ℕ) → j < n → Highest F.ops n (column_in F.ops F.member offered.now j) (entry_at degrees.new j) }
-    ensures bound { (j : ℕ) → j < n → entry_at degrees.new j ≤ 16 }
-{
-    for j in 0..n {
-        degrees[j] = row_degree(n, offered, 136 * j);
-    }
+// The first n columns of an offered table, with their degrees, 0 for one that is zero.
+#[derive(Drop)]
+pub(crate) struct Graded<'a, F: Field> {
+    pub(crate) n: usize,
+    pub(crate) offered: &'a [F],
+    pub(crate) degrees: [usize; 8],
+    ghost low: { 2 ≤ n },
+    ghost high: { n ≤ 8 },
+    ghost columns: { length offered.now ≡ COLUMNS },
+    ghost bound: { (j : ℕ) → j < n → entry_at degrees j ≤ 16 },
 }
 
-// Whether the degrees of the check columns never fall and add up to d.
-pub(crate) fn in_order(n: usize, d: usize, degrees: &[usize]) -> bool
-    requires sized { (2 ≤ n) × ((n ≤ 8) × (length degrees.now ≡ 8)) }
-    requires bound { (j : ℕ) → j < n → entry_at degrees.now j ≤ 16 }
-    ensures { Tells (InOrder (n - 1) d (check_degree degrees.now)) result }
-{
-    let mut sum = 0;
-    let mut last = 0;
-    for j in 0..n - 1 {
-        let degree = degrees[j + 1];
-        if degree < last {
-            return false;
+impl<'a, F: Field> Graded<'a, F> {
+    // Finds the degrees of the columns of an offer.
+    pub(crate) fn of(offer: &Offer<'a, F>) -> Graded<'a, F>
+        ensures same { (result.n ≡ offer.now.n) × (result.offered ≡ offer.now.offered) }
+        ensures degrees { (j : ℕ) → j < result.n → Highest F.ops result.n (column_in F.ops F.member result.offered.now j) (entry_at result.degrees j) }
+    {
+        let Offer { n, offered, .. } = *offer;
+        let mut degrees = [0; 8];
+        for (j, degree) in degrees[..n].iter_mut().enumerate() {
+            *degree = row_degree(n, offer.column(j));
         }
-        sum += degree;
-        last = degree;
+        Graded {
+            n,
+            offered,
+            degrees,
+        }
     }
-    sum == d
-}
 
-// How many check columns, from the first on, have no higher degree than column 0.
-pub(crate) fn count_no_higher(n: usize, degrees: &[usize]) -> usize
-    requires { (2 ≤ n) × ((n ≤ 8) × (length degrees.now ≡ 8)) }
-    ensures { NoHigher (n - 1) (entry_at degrees.now 0) (check_degree degrees.now) result }
-{
-    let first = degrees[0];
-    for j in 0..n - 1 {
-        if degrees[j + 1] > first {
-            return j;
-        }
+    // Whether the degrees of the check columns never fall and add up to d.
+    pub(crate) fn in_order(&self, d: usize) -> bool
+        ensures { Tells (InOrder (self.now.n - 1) d (check_degree self.now.degrees)) result }
+    {
+        let checks = &self.degrees[1..self.n];
+        checks.is_sorted() && checks.iter().sum::<usize>() == d
     }
-    n - 1
+
+    // How many check columns, from the first on, have no higher degree than column 0.
+    pub(crate) fn count_no_higher(&self) -> usize
+        ensures { NoHigher (self.now.n - 1) (entry_at self.now.degrees 0) (check_degree self.now.degrees) result }
+    {
+        let first = self.degrees[0];
+        let checks = &self.degrees[1..self.n];
+        checks
+            .iter()
+            .position(|&degree| degree > first)
+            .unwrap_or(checks.len())
+    }
 }

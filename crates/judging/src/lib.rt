@@ -7,18 +7,18 @@ ghost use Rattle.framing.specs.Framing.{column_in};
 ghost use Rattle.tables.specs.Places.{Cleared};
 ghost use Rattle.judging.specs.Offers.{Objects, OptimalFor, HoldsOffer};
 
-use crate::judge::judge;
 use crate::objection::Objection;
-use crate::taking::take_columns;
+use crate::offer::Offer;
 use fields::field::Field;
 use framing::Numbers;
-use framing::packing::pack_degrees;
 use tables::clear;
+use tables::sizes::{COLUMNS, FRAME, GENERATORS, WORK};
 
 mod degrees;
 mod judge;
 mod leading;
 pub mod objection;
+mod offer;
 mod products;
 mod taking;
 
@@ -31,26 +31,17 @@ pub fn offer_row<F: Field>(
     work: &mut [F],
 ) -> Result<Numbers, Objection>
     requires sized { (2 ≤ n) × (n ≤ 8) }
-    requires room { (length generators.now ≡ 136) × ((length offered.now ≡ 1088) × ((length frame.old ≡ 1105) × (length work.old ≡ 4521))) }
+    requires room { (length generators.now ≡ GENERATORS) × ((length offered.now ≡ COLUMNS) × ((length frame.old ≡ FRAME) × (length work.old ≡ WORK))) }
     ensures answer { MatchResult result (λ x. HoldsOffer F.ops F.member n generators.now offered.now frame.new x.degree x.divisor x.columns) (λ x. Objects F.ops n (n - 1) (generator_in F.ops F.member generators.now) (column_in F.ops F.member offered.now) x × (frame.new ≡ frame.old)) }
     ensures exact { MatchResult result (λ _. OptimalFor F.ops (n - 1) (generator_in F.ops F.member generators.now) (column_in F.ops F.member offered.now)) (λ _. OptimalFor F.ops (n - 1) (generator_in F.ops F.member generators.now) (column_in F.ops F.member offered.now) → ⊥) }
     ensures cleared { Cleared F.ops F.member work.new }
 {
-    // Its contract promises that each member but zero has an inverse.
-    let _ = F::one().inverse();
-    match judge(n, generators, offered, work) {
-        Err(objection) => {
-            clear(work);
-            Err(objection)
-        }
-        Ok(degrees) => {
-            take_columns(n, offered, work, frame);
-            clear(work);
-            Ok(Numbers {
-                degree: degrees.row,
-                divisor: degrees.divisor,
-                columns: pack_degrees(n, frame, 0),
-            })
-        }
+    let taken = Offer {
+        n,
+        generators,
+        offered,
     }
+    .take(frame, work);
+    clear(work);
+    taken
 }

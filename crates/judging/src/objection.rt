@@ -1,7 +1,7 @@
 // What speaks against an offered frame.
 
 // The first question that is answered no.
-#[derive(Clone, Copy)]
+#[derive(Clone, Copy, PartialEq, Eq, Debug)]
 pub enum Objection {
     // Every generator is zero.
     AllZero,

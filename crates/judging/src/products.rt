@@ -1,92 +1,59 @@
 // The generators times the offered columns.
-ghost use Rattle.std.specs.Prelude.{◌≡◌, ◌+◌, ◌<◌, ◌≤◌, length, MatchOption};
-ghost use Rattle.algebra.specs.Series.{series, dot, scale};
-ghost use Rattle.frames.specs.Rows.{generator_in, gcd_in};
+ghost use Rattle.std.specs.Prelude.{◌≡◌, ◌<◌, ◌≤◌, length, MatchOption};
+ghost use Rattle.algebra.specs.Series.{series, dot};
+ghost use Rattle.frames.specs.Rows.{generator_in, row_in};
 ghost use Rattle.framing.specs.Framing.{column_in};
-ghost use Rattle.tables.specs.Places.{Kept, poly_at};
+ghost use Rattle.tables.specs.Places.{at};
 ghost use Rattle.judging.specs.Answers.{Tells};
 ghost use Rattle.judging.specs.Columns.{AllSyzygies, LowestNoSyzygy};
 
+use crate::offer::Offer;
 use fields::field::Field;
-use frames::row::DIVISOR;
 use polynomials::{degree, multiply_into};
-use tables::rows::{add_multiple, clear_part, copy_from};
+use tables::clear;
+use tables::rows::add_multiple;
+use tables::sizes::{GENERATORS, WIDTH};
 
-// How many coefficients a polynomial has.
-const WIDTH: usize = 17;
+// How many coefficients the product of two polynomials has.
+const PRODUCT: usize = 33;
 
-// Where a generator and a component of a column stand while they are multiplied.
-const LEFT: usize = 0;
-
-const RIGHT: usize = 17;
-
-// Where the sum of the products stands, and how many coefficients it has.
-const PRODUCT: usize = 34;
-
-const PRODUCT_WIDTH: usize = 33;
-
-// Adds to the sum the product of two polynomials of other tables.
-fn add_product<F: Field>(generators: &[F], left: usize, offered: &[F], right: usize, work: &mut [F])
-    requires room { (left + 17 ≤ length generators.now) × ((right + 17 ≤ length offered.now) × (length work.old ≡ 4521)) }
-    ensures sum { poly_at F.ops F.member work.new 34 33 ≡ (series F.ops).sum (poly_at F.ops F.member work.old 34 33) ((series F.ops).product (poly_at F.ops F.member generators.now left 17) (poly_at F.ops F.member offered.now right 17)) }
-    ensures others { Kept F.ops F.member 0 67 work.old work.new }
-{
-    copy_from(generators, left, work, LEFT, WIDTH);
-    copy_from(offered, right, work, RIGHT, WIDTH);
-    multiply_into(work, PRODUCT, LEFT, WIDTH, RIGHT, WIDTH);
-}
-
-// Writes the generators times column j.
-fn write_product<F: Field>(n: usize, generators: &[F], offered: &[F], j: usize, work: &mut [F])
-    requires sized { (n ≤ 8) × (j < 8) }
-    requires room { (length generators.now ≡ 136) × ((length offered.now ≡ 1088) × (length work.old ≡ 4521)) }
-    ensures product { poly_at F.ops F.member work.new 34 33 ≡ dot (series F.ops) n (generator_in F.ops F.member generators.now) (column_in F.ops F.member offered.now j) }
-    ensures others { Kept F.ops F.member 0 67 work.old work.new }
-{
-    clear_part(work, PRODUCT, PRODUCT_WIDTH);
-    for i in 0..n {
-        add_product(generators, WIDTH * i, offered, 136 * j + WIDTH * i, work);
-    }
-}
-
-// Whether the generators times column j are the divisor in the work table times a factor.
-pub(crate) fn product_is<F: Field>(
-    n: usize,
-    generators: &[F],
-    offered: &[F],
-    j: usize,
-    factor: F,
-    work: &mut [F],
-) -> bool
-    requires sized { (n ≤ 8) × (j < 8) }
-    requires room { (length generators.now ≡ 136) × ((length offered.now ≡ 1088) × (length work.old ≡ 4521)) }
-    ensures answer { Tells (dot (series F.ops) n (generator_in F.ops F.member generators.now) (column_in F.ops F.member offered.now j) ≡ scale F.ops (F.member factor) (gcd_in F.ops F.member work.old)) result }
-    ensures others { Kept F.ops F.member 0 67 work.old work.new }
-{
-    write_product(n, generators, offered, j, work);
-    add_multiple(work, PRODUCT, 0, factor.negate(), DIVISOR, WIDTH);
-    match degree(work, PRODUCT, PRODUCT_WIDTH) {
-        None => true,
-        Some(_) => false,
-    }
-}
-
-// The lowest check column that the generators do not send to zero.
-pub(crate) fn lowest_no_syzygy<F: Field>(
-    n: usize,
-    generators: &[F],
-    offered: &[F],
-    work: &mut [F],
-) -> Option<usize>
-    requires sized { n ≤ 8 }
-    requires room { (length generators.now ≡ 136) × ((length offered.now ≡ 1088) × (length work.old ≡ 4521)) }
-    ensures answer { MatchOption result (AllSyzygies F.ops n (generator_in F.ops F.member generators.now) (column_in F.ops F.member offered.now)) (LowestNoSyzygy F.ops n (generator_in F.ops F.member generators.now) (column_in F.ops F.member offered.now)) }
-    ensures others { Kept F.ops F.member 0 67 work.old work.new }
-{
-    for j in 1..n {
-        if !product_is(n, generators, offered, j, F::zero(), work) {
-            return Some(j);
+impl<'a, F: Field> Offer<'a, F> {
+    // Writes the generators times a column.
+    fn write_product(&self, column: &[F], product: &mut [F])
+        requires { (length column.now ≡ GENERATORS) × (length product.old ≡ PRODUCT) }
+        ensures { at F.ops F.member product.new ≡ dot (series F.ops) self.now.n (generator_in F.ops F.member self.now.generators.now) (row_in F.ops F.member column.now 0) }
+    {
+        clear(product);
+        let generators = &self.generators[..WIDTH * self.n];
+        for (i, generator) in generators.chunks_exact(WIDTH).enumerate() {
+            let start = WIDTH * i;
+            multiply_into(product, generator, &column[start..start + WIDTH]);
         }
     }
-    None
+
+    // Whether the generators times column j are the polynomial of these coefficients.
+    pub(crate) fn product_is(&self, j: usize, polynomial: &[F]) -> bool
+        requires { (j < 8) × (length polynomial.now ≤ PRODUCT) }
+        ensures { Tells (dot (series F.ops) self.now.n (generator_in F.ops F.member self.now.generators.now) (column_in F.ops F.member self.now.offered.now j) ≡ at F.ops F.member polynomial.now) result }
+    {
+        let column = self.column(j);
+        let mut cells = [F::zero(); PRODUCT];
+        let difference = &mut cells[..];
+        self.write_product(column, difference);
+        add_multiple(difference, 0, F::one().negate(), polynomial);
+        degree(difference).is_none()
+    }
+
+    // The lowest check column that the generators do not send to zero.
+    // By a `for`: a closure in `find` would need the clause of `product_is` once more.
+    pub(crate) fn lowest_no_syzygy(&self) -> Option<usize>
+        ensures { MatchOption result (AllSyzygies F.ops self.now.n (generator_in F.ops F.member self.now.generators.now) (column_in F.ops F.member self.now.offered.now)) (LowestNoSyzygy F.ops self.now.n (generator_in F.ops F.member self.now.generators.now) (column_in F.ops F.member self.now.offered.now)) }
+    {
+        for j in 1..self.n {
+            if !self.product_is(j, &[]) {
+                return Some(j);
+            }
+        }
+        None
+    }
 }

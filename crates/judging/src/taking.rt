@@ -1,34 +1,49 @@
 // Taking offered columns into a frame table.
-ghost use Rattle.std.specs.Prelude.{◌≡◌, ℕ, ◌+◌, ◌*◌, ◌<◌, ◌≤◌, length};
-ghost use Rattle.frames.specs.Rows.{gcd_in};
+ghost use Rattle.std.specs.Prelude.{◌≡◌, ℕ, ◌+◌, ◌-◌, ◌*◌, ◌<◌, length, MatchResult};
+ghost use Rattle.frames.specs.Rows.{generator_in, gcd_in};
 ghost use Rattle.framing.specs.Framing.{column_in, divisor_in};
 ghost use Rattle.tables.specs.Places.{at};
+ghost use Rattle.judging.specs.Offers.{Objects, OptimalFor, HoldsOffer};
 
+use crate::objection::Objection;
+use crate::offer::Offer;
 use fields::field::Field;
 use frames::row::DIVISOR;
+use framing::Numbers;
 use tables::clear;
 use tables::rows::copy_from;
+use tables::sizes::{COLUMNS, FRAME, GENERATORS, WIDTH, WORK};
 
-// How many coefficients a polynomial has.
-const WIDTH: usize = 17;
+impl<'a, F: Field> Offer<'a, F> {
+    // Writes the first n rows and columns of the offered table and the divisor in the work table into a frame table, whose other places become zero.
+    pub(crate) fn take_columns(&self, work: &[F], frame: &mut [F])
+        requires { (length work.now ≡ WORK) × (length frame.old ≡ FRAME) }
+        ensures copied { (j i : ℕ) → j < self.now.n → i < self.now.n → column_in F.ops F.member frame.new j i ≡ column_in F.ops F.member self.now.offered.now j i }
+        ensures divisor { divisor_in F.ops F.member frame.new ≡ gcd_in F.ops F.member work.now }
+        ensures rest { (j i k : ℕ) → j < 8 → i < 8 → k < 17 → (j < self.now.n → i < self.now.n → ⊥) → at F.ops F.member frame.new (136 * j + 17 * i + k) ≡ F.ops.zero }
+    {
+        clear(frame);
+        copy_from(work, DIVISOR, frame, COLUMNS, WIDTH);
+        // By number: a part stands at one place in both tables.
+        for j in 0..self.n {
+            copy_from(
+                self.offered,
+                GENERATORS * j,
+                frame,
+                GENERATORS * j,
+                WIDTH * self.n,
+            );
+        }
+    }
 
-// How many places a column takes.
-const COLUMN: usize = 136;
-
-// Where the divisor stands in a frame table.
-const DIVISOR_PLACE: usize = 1088;
-
-// Writes the first n rows and columns of an offered table and the divisor in the work table into a frame table, whose other places become zero.
-pub(crate) fn take_columns<F: Field>(n: usize, offered: &[F], work: &[F], frame: &mut [F])
-    requires sized { n ≤ 8 }
-    requires room { (length offered.now ≡ 1088) × ((length work.now ≡ 4521) × (length frame.old ≡ 1105)) }
-    ensures copied { (j i : ℕ) → j < n → i < n → column_in F.ops F.member frame.new j i ≡ column_in F.ops F.member offered.now j i }
-    ensures divisor { divisor_in F.ops F.member frame.new ≡ gcd_in F.ops F.member work.now }
-    ensures rest { (j i k : ℕ) → j < 8 → i < 8 → k < 17 → (j < n → i < n → ⊥) → at F.ops F.member frame.new (136 * j + 17 * i + k) ≡ F.ops.zero }
-{
-    clear(frame);
-    copy_from(work, DIVISOR, frame, DIVISOR_PLACE, WIDTH);
-    for j in 0..n {
-        copy_from(offered, COLUMN * j, frame, COLUMN * j, WIDTH * n);
+    // Judges the columns, and takes them into a frame table where nothing speaks against them; answers the numbers of the frame.
+    pub(crate) fn take(&self, frame: &mut [F], work: &mut [F]) -> Result<Numbers, Objection>
+        requires { (length frame.old ≡ FRAME) × (length work.old ≡ WORK) }
+        ensures answer { MatchResult result (λ x. HoldsOffer F.ops F.member self.now.n self.now.generators.now self.now.offered.now frame.new x.degree x.divisor x.columns) (λ x. Objects F.ops self.now.n (self.now.n - 1) (generator_in F.ops F.member self.now.generators.now) (column_in F.ops F.member self.now.offered.now) x × (frame.new ≡ frame.old)) }
+        ensures exact { MatchResult result (λ _. OptimalFor F.ops (self.now.n - 1) (generator_in F.ops F.member self.now.generators.now) (column_in F.ops F.member self.now.offered.now)) (λ _. OptimalFor F.ops (self.now.n - 1) (generator_in F.ops F.member self.now.generators.now) (column_in F.ops F.member self.now.offered.now) → ⊥) }
+    {
+        let degrees = self.judge(work)?;
+        self.take_columns(work, frame);
+        Ok(Numbers::of(self.n, degrees, frame))
     }
 }

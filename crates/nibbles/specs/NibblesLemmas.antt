@@ -1,12 +1,13 @@
 -- Nibbles are numbered, keep the laws of a ring, and have inverses. Assumes nothing.
 -- The rule is tested against a table at all 256 pairs; the laws are then tested on the table.
-use Rattle.std.specs.Prelude.{Bool, ◌≡◌, refl, ℕ, zero, suc, ◌%◌, ◌<◌, T, eqb, ltb, get_or}
-use Rattle.std.proofs.Common.{sym, ap, ap₂, ◌∙◌, arith, eqb→eq, ltb→lt}
+use Rattle.std.specs.Prelude.{Bool, ◌≡◌, refl, ℕ, zero, suc, ◌%◌, ◌<◌, ◌≤◌, eqb, get_or}
+use Rattle.std.proofs.Common.{sym, ap, ap₂, ◌∙◌, arith, eqb→eq}
 use Rattle.std.specs.Int.Bits.{bit_xor, xor_assoc, xor_self, xor_zero_r}
 use Rattle.std.proofs.lemmas.Nat.{xor_comm, xor_lt}
 use Rattle.algebra.specs.Rings.{RingLaws, FieldLaws, Invertible, Numbering}
-use Rattle.fields.specs.Quadratics.{quadratic, Rootless}
-use Rattle.fields.proofs.Tests.{every, every_below, every_pair, every_triple}
+use Rattle.fields.specs.Quadratics.{Rootless}
+use Rattle.fields.proofs.Roots.{NoRootBelow, rootless}
+use Rattle.fields.proofs.Tests.{every_below, every_pair, every_triple}
 use Rattle.nibbles.specs.Nibbles.{code_of, nibbles, nibble_of, carryless, reduced, nibble_ops}
 use Rattle.nibbles.specs.Tables.{entry, inverses}
 use Rattle.nibbles.specs.declared.Nibble.{Nibble}
@@ -153,13 +154,10 @@ inverse_nibble x nz =
 pub nibble_invertible : Invertible nibble_ops
 nibble_invertible x nz = (nibble_of (get_or inverses (code_of x) 0), inverse_nibble x nz)
 
--- the nibble of code k is no root
-abbrev pub nonzero : Nibble → Nibble → ℕ → Bool
-nonzero t c k = ltb 0 (code_of (quadratic nibble_ops t c (nibble_of k)))
-
 -- a quadratic has no root where a test of all 16 passes
-pub no_root : (t c : Nibble) → T (every (nonzero t c) 16) → Rootless nibble_ops t c
-no_root t c test z e =
-    let positive = ltb→lt 0 _ (every_below (nonzero t c) 16 test (code_of z) (code_below z)) in
-    let none : ◌≡◌ {A = ℕ} (code_of (quadratic nibble_ops t c (nibble_of (code_of z)))) 0 = ap (λ x. code_of (quadratic nibble_ops t c x)) (nibble_code z) ∙ ap code_of e in
-    omega arith
+pub no_root : (t c : Nibble) → NoRootBelow nibble_ops code_of nibble_of 16 t c → Rootless nibble_ops t c
+no_root = rootless nibble_ops code_of nibble_of 16 nibble_code code_below refl
+
+-- the codes and the kind of pairs of nibbles fit their types
+pub small : (16 ≤ 256) × (2 ≤ 253)
+small = (omega arith, omega arith)

@@ -5,7 +5,7 @@ ghost use Rattle.std.specs.Prelude.{◌≡◌, ◌<◌, get_or};
 ghost use Rattle.nibbles.specs.Nibbles.{code_of, nibble_of, nibble_ops};
 ghost use Rattle.nibbles.specs.Tables.{entry, inverses};
 ghost use Rattle.nibbles.specs.declared.Nibble.{Nibble};
-ghost use Rattle.nibbles.specs.NibblesLemmas.{nibble_field, nibble_numbering};
+ghost use Rattle.nibbles.specs.NibblesLemmas.{nibble_field, nibble_invertible, nibble_numbering};
 
 use fields::fault::FieldFault;
 use fields::field::Field;
@@ -13,7 +13,7 @@ use fields::field::Field;
 pub mod quadratic;
 
 // The code k is the variant Nk.
-#[derive(Clone, Copy)]
+#[derive(Clone, Copy, PartialEq, Eq, Debug)]
 pub enum Nibble {
     N0,
     N1,
@@ -87,6 +87,7 @@ fn product_number(left: u16, right: u16) -> u16
     PRODUCTS[left as usize][right as usize]
 }
 
+// One line on this crate's own table, so tones has its own too.
 fn inverse_number(number: u16) -> u16
     requires { number < 16 }
     ensures { result ≡ get_or inverses number 0 }
@@ -94,11 +95,12 @@ fn inverse_number(number: u16) -> u16
     INVERSES[number as usize]
 }
 
-fn number(nibble: Nibble) -> u16
-    ensures value { result ≡ code_of nibble }
-    ensures below { result < 16 }
-{
-    nibble as u16
+impl From<Nibble> for u16 {
+    ghost from_gives = { λ x r. (r ≡ code_of x) × (r < 16) };
+
+    fn from(nibble: Nibble) -> u16 {
+        nibble as u16
+    }
 }
 
 impl Field for Nibble {
@@ -116,6 +118,8 @@ impl Field for Nibble {
 
     ghost laws = { nibble_field };
 
+    ghost invertible = { nibble_invertible };
+
     ghost numbered = { nibble_numbering };
 
     fn zero() -> Nibble {
@@ -127,7 +131,7 @@ impl Field for Nibble {
     }
 
     fn add(self, other: Nibble) -> Nibble {
-        low_bits(number(self) ^ number(other))
+        low_bits(u16::from(self) ^ u16::from(other))
     }
 
     fn negate(self) -> Nibble {
@@ -135,18 +139,18 @@ impl Field for Nibble {
     }
 
     fn multiply(self, other: Nibble) -> Nibble {
-        low_bits(product_number(number(self), number(other)))
+        low_bits(product_number(u16::from(self), u16::from(other)))
     }
 
     fn inverse(self) -> Option<Nibble> {
         match self {
             Nibble::N0 => None,
-            _ => Some(low_bits(inverse_number(number(self)))),
+            _ => Some(low_bits(inverse_number(u16::from(self)))),
         }
     }
 
     fn same(self, other: Nibble) -> bool {
-        number(self) == number(other)
+        self == other
     }
 
     fn size() -> u32 {
@@ -154,7 +158,7 @@ impl Field for Nibble {
     }
 
     fn code(self) -> u16 {
-        number(self)
+        self as u16
     }
 
     fn element(code: u32) -> Result<Nibble, FieldFault> {

@@ -3,15 +3,15 @@
 
 ghost use Rattle.std.specs.Prelude.{◌≡◌, ℕ, ◌+◌, ◌*◌, ◌<◌};
 ghost use Rattle.pairs.specs.Pairs.{PairMember, pair, norm, pair_ops, pair_number};
-ghost use Rattle.pairs.specs.Laws.{pair_field};
-ghost use Rattle.pairs.specs.Codes.{pair_numbering};
+ghost use Rattle.pairs.specs.Laws.{pair_field, pair_invertible};
+ghost use Rattle.pairs.specs.Codes.{decide_zero, pair_numbering};
 
 use fields::fault::FieldFault;
 use fields::field::Field;
 use fields::quadratic::Quadratic;
 
 // low + high·z, where z·z = −t·z − c.
-#[derive(Clone, Copy)]
+#[derive(Clone, Copy, Debug)]
 pub struct Pair<F> {
     pub low: F,
     pub high: F,
@@ -47,6 +47,8 @@ impl<F: Quadratic> Field for Pair<F> {
     ghost tag = { F.Field.tag + 2 };
 
     ghost laws = { pair_field F.Field.ops _ _ F.Field.laws };
+
+    ghost invertible = { pair_invertible F.Field.ops _ _ F.Field.laws (decide_zero F.Field.numbered) F.Field.invertible F.Quadratic.rootless };
 
     ghost numbered = { pair_numbering F.Field.numbered _ _ };
 
@@ -95,13 +97,11 @@ impl<F: Quadratic> Field for Pair<F> {
             low: subtract(self.low, F::t().multiply(self.high)),
             high: self.high.negate(),
         };
-        match divisor(self).inverse() {
-            Some(over) => Some(Pair {
-                low: conjugate.low.multiply(over),
-                high: conjugate.high.multiply(over),
-            }),
-            None => None,
-        }
+        let over = divisor(self).inverse()?;
+        Some(Pair {
+            low: conjugate.low.multiply(over),
+            high: conjugate.high.multiply(over),
+        })
     }
 
     fn same(self, other: Pair<F>) -> bool {
@@ -109,14 +109,10 @@ impl<F: Quadratic> Field for Pair<F> {
     }
 
     fn size() -> u32 {
-        // t promises that the size fits.
-        let _ = F::t();
         F::size() * F::size()
     }
 
     fn code(self) -> u16 {
-        // t promises that the code fits.
-        let _ = F::t();
         (self.low.code() as u32 + F::size() * self.high.code() as u32) as u16
     }
 
@@ -128,8 +124,6 @@ impl<F: Quadratic> Field for Pair<F> {
     }
 
     fn kind() -> u8 {
-        // t promises that the kind fits.
-        let _ = F::t();
         F::kind() + 2
     }
 }

@@ -1,2 +1,3 @@
 pub mod Divisions
+pub mod Highest
 pub mod LongDivision

@@ -4,3 +4,5 @@ pub mod FrameTables
 pub mod Scans
 pub mod Walking
 pub mod RowParts
+pub mod Degrees
+pub mod Fronts

@@ -25,10 +25,6 @@ module _ {M : Type 0} (o : RingOps M) (F : IsField o) (d : ℕ) (r : ℕ → ℕ
   start zero p v P B E found none = absurd (not-suc-le-zero p)
   start (suc m) p v P B E found none = Scanning.scanned_start o F m d r v P B E found none
 
-  pub at_most : (n : ℕ) → 0 < n → VectorDegree o n r d → (q rank : ℕ) (P : ℕ → ℕ) (b : ℕ) (B : ℕ → ℕ) (E : ℕ → ℕ → M) (found : ℕ → Bool) → Scanned o n d r q rank P b B E found → rank ≤ suc (d + d)
-  at_most zero p v q rank P b B E found s = absurd (not-suc-le-zero p)
-  at_most (suc m) p v q rank P b B E found s = Scanning.rank_at_most o F m d r v q rank P b B E found s
-
   pub skip : (n : ℕ) → 0 < n → VectorDegree o n r d → (q rank : ℕ) (P : ℕ → ℕ) (b : ℕ) (B : ℕ → ℕ) (E : ℕ → ℕ → M) (found : ℕ → Bool) → Scanned o n d r q rank P b B E found
       → found (q % n) ≡ true → Scanned o n d r (suc q) rank P b B E found
   skip zero p v q rank P b B E found s = absurd (not-suc-le-zero p)

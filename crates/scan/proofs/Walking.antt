@@ -4,7 +4,7 @@ use mathlib.Core.List.{List}
 use mathlib.Core.Path.{◌≡◌, sym, ap, ◌∙◌}
 use mathlib.Core.Logic.{inl, inr}
 use Prim.Native.Nat.{ℕ, suc, ◌+◌, ◌-◌, ◌*◌, ◌%◌, ◌<◌, ◌≤◌}
-use native.Mathlib.Nat.{not-suc-le-zero, le_refl, mod-lt, eq-or-lt_of_le, le_of_suc-le-suc, mul-le-mul_left}
+use native.Mathlib.Nat.{not-suc-le-zero, le_refl, mod-lt, eq-or-lt_of_le, le_of_suc-le-suc}
 use native.Mathlib.Omega.{arith}
 use lib.ListN.{length, set}
 use lib.Seq.{get_or-set_same, get_or-set_other}
@@ -22,10 +22,6 @@ use Rattle.frames.specs.Rows.{column_in}
 use Rattle.scan.specs.Walked.{mark_at, Walked}
 use Rattle.scan.proofs.FrameTables.{within_all, written_start, written_pivot, written_basic, read_off_written, rest_written}
 use Rattle.scan.proofs.Scans as Scans
-
--- the steps of rows ≤ 33 rows have room
-pub steps_room : (rows : ℕ) → rows ≤ 33 → rows * rows ≤ 1089
-steps_room rows l = let e = mul-le-mul_left rows l in omega arith
 
 module _ {F M : Type 0} (o : RingOps M) (field : IsField o) (member : F → M) (n d rows : ℕ) (r : ℕ → ℕ → M) (positive : 0 < n) (small : n ≤ 8) (low : d ≤ 16) (wide : rows ≡ suc (d + d)) (v : VectorDegree o n r d) where
   abbrev L : RingLaws o
@@ -48,9 +44,6 @@ module _ {F M : Type 0} (o : RingOps M) (field : IsField o) (member : F → M) (
 
     abbrev V : ℕ → ℕ → M
     V t = place_list o n r (P t)
-
-    pub rank_room : rank ≤ rows
-    rank_room = let x = Scans.at_most o field d r n positive v q rank P b w.B w.E (mark_at found) w.scanned in omega arith
 
     pub walked_places : q ≤ n * suc d → Rising n rank P
     walked_places l = record { within = λ t a. within_all n d (P t) low (let x = w.scanned.pivots_walked t a in omega arith); rising = w.scanned.pivots_rising }

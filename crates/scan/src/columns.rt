@@ -4,36 +4,35 @@ ghost use Rattle.elimination.specs.Steps.{entry_at};
 ghost use Rattle.tables.specs.Places.{at, Kept};
 ghost use Rattle.scan.specs.Columns.{cell, AtPlaces, CheckAt, Rising};
 
+use crate::row::Row;
 use fields::field::Field;
-use tables::cells::{get, put};
+use tables::cells::put;
+use tables::sizes::{GENERATORS, WIDTH};
 
 // Writes an element at the place q of column j.
-fn put_at<F: Field>(n: usize, j: usize, q: usize, value: F, frame: &mut [F])
-    requires sized { (0 < n) × ((n ≤ 8) × (j < 8)) }
-    requires room { (q < n * 17) × (length frame.old ≡ 1105) }
-    ensures here { at F.ops F.member frame.new (cell n j q) ≡ F.member value }
-    ensures others { Kept F.ops F.member (cell n j q) 1 frame.old frame.new }
+fn put_at<F: Field>(row: &Row<'_, F>, j: usize, q: usize, value: F, frame: &mut [F])
+    requires column { j < 8 }
+    requires room { (q < row.now.n * 17) × (length frame.old ≡ 1105) }
+    ensures here { at F.ops F.member frame.new (cell row.now.n j q) ≡ F.member value }
+    ensures others { Kept F.ops F.member (cell row.now.n j q) 1 frame.old frame.new }
 {
-    put(frame, 136 * j + 17 * (q % n) + q / n, value);
+    put(
+        frame,
+        GENERATORS * j + WIDTH * (q % row.n) + q / row.n,
+        value,
+    );
 }
 
 // Writes the first entries of a list at the places of column j.
-pub fn write_at<F: Field>(
-    n: usize,
-    j: usize,
-    rank: usize,
-    places: &[usize],
-    list: &[F],
-    frame: &mut [F],
-)
-    requires sized { (0 < n) × ((n ≤ 8) × (j < 8)) }
-    requires room { (rank ≤ length places.now) × ((rank ≤ length list.now) × (length frame.old ≡ 1105)) }
-    requires rising { Rising n rank (entry_at places.now) }
-    ensures written { AtPlaces F.ops F.member n j rank (entry_at places.now) (at F.ops F.member list.now) frame.old frame.new }
+pub fn write_at<F: Field>(row: &Row<'_, F>, j: usize, places: &[usize], list: &[F], frame: &mut [F])
+    requires column { j < 8 }
+    requires room { (length places.now ≤ length list.now) × (length frame.old ≡ 1105) }
+    requires rising { Rising row.now.n (length places.now) (entry_at places.now) }
+    ensures written { AtPlaces F.ops F.member row.now.n j (length places.now) (entry_at places.now) (at F.ops F.member list.now) frame.old frame.new }
     ensures behind { (k : ℕ) → 1088 ≤ k → at F.ops F.member frame.new k ≡ at F.ops F.member frame.old k }
 {
-    for t in 0..rank {
-        put_at(n, j, places[t], get(list, t), frame);
+    for (q, x) in places.iter().zip(list) {
+        put_at(row, j, *q, *x, frame);
     }
 }
 
@@ -41,29 +40,28 @@ pub fn write_at<F: Field>(
 fn negate_all<F: Field>(list: &mut [F])
     ensures { (k : ℕ) → k < length list.old → at F.ops F.member list.new k ≡ F.ops.negative (at F.ops F.member list.old k) }
 {
-    for k in 0..list.len() {
-        put(list, k, get(list, k).negate());
+    for x in list.iter_mut() {
+        *x = x.negate();
     }
 }
 
 // Writes check column j: one at the place q, and the negated entries of a reduced column at the places before it.
 pub fn write_check<F: Field>(
-    n: usize,
+    row: &Row<'_, F>,
     j: usize,
     q: usize,
-    rank: usize,
     places: &[usize],
     column: &mut [F],
     frame: &mut [F],
 )
-    requires sized { (0 < n) × ((n ≤ 8) × (j < 8)) }
-    requires room { (q < n * 17) × ((rank ≤ length places.now) × ((rank ≤ length column.old) × (length frame.old ≡ 1105))) }
-    requires rising { Rising n rank (entry_at places.now) }
-    requires before { (t : ℕ) → t < rank → entry_at places.now t < q }
-    ensures written { CheckAt F.ops F.member n j q rank (entry_at places.now) (λ t. F.ops.negative (at F.ops F.member column.old t)) frame.old frame.new }
+    requires column { j < 8 }
+    requires room { (q < row.now.n * 17) × ((length places.now ≤ length column.old) × (length frame.old ≡ 1105)) }
+    requires rising { Rising row.now.n (length places.now) (entry_at places.now) }
+    requires before { (t : ℕ) → t < length places.now → entry_at places.now t < q }
+    ensures written { CheckAt F.ops F.member row.now.n j q (length places.now) (entry_at places.now) (λ t. F.ops.negative (at F.ops F.member column.old t)) frame.old frame.new }
     ensures behind { (k : ℕ) → 1088 ≤ k → at F.ops F.member frame.new k ≡ at F.ops F.member frame.old k }
 {
     negate_all(column);
-    write_at(n, j, rank, places, column, frame);
-    put_at(n, j, q, F::one(), frame);
+    write_at(row, j, places, column, frame);
+    put_at(row, j, q, F::one(), frame);
 }

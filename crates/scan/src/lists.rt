@@ -1,25 +1,30 @@
 // The lists at the places of a row, written into a column.
-ghost use Rattle.std.specs.Prelude.{◌≡◌, ℕ, suc, ◌+◌, ◌*◌, ◌<◌, ◌≤◌, length};
-ghost use Rattle.algebra.specs.Divisors.{Bounded};
+ghost use Rattle.std.specs.Prelude.{◌≡◌, ℕ, suc, ◌+◌, ◌*◌, ◌<◌, length};
 ghost use Rattle.algebra.specs.Places.{place_list};
 ghost use Rattle.algebra.specs.Series.{series};
 ghost use Rattle.frames.specs.Rows.{generator_in};
 ghost use Rattle.tables.specs.Places.{at};
 
+use crate::row::Row;
 use fields::field::Field;
 use tables::cells::put;
 use tables::clear;
 use tables::rows::copy_from;
+use tables::sizes::WIDTH;
 
-// Writes the list at the place q: the coefficients of s^(q / n) times polynomial q % n of a row of degree at most d.
-pub fn write_list<F: Field>(n: usize, d: usize, q: usize, row: &[F], column: &mut [F])
-    requires sized { (0 < n) × ((n ≤ 8) × (d ≤ 16)) }
-    requires room { (length row.now ≡ 136) × ((length column.old ≡ suc (d + d)) × (q < n * suc d)) }
-    requires bounded { Bounded F.ops n (suc d) (generator_in F.ops F.member row.now) }
-    ensures { (k : ℕ) → k < suc (d + d) → at F.ops F.member column.new k ≡ place_list F.ops n (generator_in F.ops F.member row.now) q k }
+// Writes the list at the place q: the coefficients of s^(q / n) times polynomial q % n of a row.
+pub fn write_list<F: Field>(row: &Row<'_, F>, q: usize, column: &mut [F])
+    requires { (length column.old ≡ suc (row.now.d + row.now.d)) × (q < row.now.n * suc row.now.d) }
+    ensures { (k : ℕ) → k < suc (row.now.d + row.now.d) → at F.ops F.member column.new k ≡ place_list F.ops row.now.n (generator_in F.ops F.member row.now.entries.now) q k }
 {
     clear(column);
-    copy_from(row, 17 * (q % n), column, q / n, d + 1);
+    copy_from(
+        row.entries,
+        WIDTH * (q % row.n),
+        column,
+        q / row.n,
+        row.d + 1,
+    );
 }
 
 // Writes the unit list.

@@ -24,10 +24,6 @@ Apart base width other count = (k : ℕ) → Within base width k → Within othe
 abbrev pub Kept : {F R : Type 0} → RingOps R → (F → R) → ℕ → ℕ → List F → List F → Type 0
 Kept o member base width before after = (k : ℕ) → (Within base width k → ⊥) → at o member after k ≡ at o member before k
 
--- every place outside two parts is as it was
-abbrev pub KeptTwo : {F R : Type 0} → RingOps R → (F → R) → ℕ → ℕ → ℕ → ℕ → List F → List F → Type 0
-KeptTwo o member base width other count before after = (k : ℕ) → (Within base width k → ⊥) → (Within other count k → ⊥) → at o member after k ≡ at o member before k
-
 -- the first width coefficients of f, then zeros
 unfoldable pub cut : {R : Type 0} → RingOps R → ℕ → (ℕ → R) → ℕ → R
 cut o zero f k = o.zero

@@ -1,6 +1,5 @@
 // Single places of a table.
 ghost use Rattle.std.specs.Prelude.{◌≡◌, ◌<◌, length};
-ghost use Rattle.algebra.specs.Rings.{Invertible};
 ghost use Rattle.tables.specs.Places.{at, Kept};
 
 use fields::field::Field;
@@ -26,11 +25,7 @@ pub fn put<F: Field>(table: &mut [F], place: usize, value: F)
 pub fn inverse_at<F: Field>(table: &[F], place: usize) -> F
     requires room { place < length table.now }
     requires nonzero { at F.ops F.member table.now place ≡ F.ops.zero → ⊥ }
-    ensures value { F.ops.product (at F.ops F.member table.now place) (F.member result) ≡ F.ops.one }
-    ensures invertible { Invertible F.ops }
+    ensures { F.ops.product (at F.ops F.member table.now place) (F.member result) ≡ F.ops.one }
 {
-    match get(table, place).inverse() {
-        Some(x) => x,
-        None => unreachable(),
-    }
+    get(table, place).inverse().unwrap()
 }

@@ -3,7 +3,6 @@
 
 ghost use Rattle.tables.specs.Places.{Cleared};
 
-use crate::cells::put;
 use fields::field::Field;
 
 pub mod cells;
@@ -14,7 +13,8 @@ pub mod sizes;
 pub fn clear<F: Field>(table: &mut [F])
     ensures { Cleared F.ops F.member table.new }
 {
-    for k in 0..table.len() {
-        put(table, k, F::zero());
+    // `fill` asks that a clone is the element, which is no law of a field.
+    for x in table.iter_mut() {
+        *x = F::zero();
     }
 }

@@ -1,9 +1,9 @@
-// Parts of tables: rows of a matrix, or the coefficients of polynomials.
-ghost use Rattle.std.specs.Prelude.{◌≡◌, ℕ, ◌+◌, ◌<◌, ◌≤◌, length};
+// Rows: the coefficients of polynomials, or the rows of a matrix, in slices and in parts of tables.
+ghost use Rattle.std.specs.Prelude.{◌≡◌, ◌+◌, ◌≤◌, length};
 ghost use Rattle.algebra.specs.Series.{series, shift, scale as scaled};
-ghost use Rattle.tables.specs.Places.{at, Apart, Kept, KeptTwo, poly_at};
+ghost use Rattle.tables.specs.Places.{at, Apart, Kept, poly_at};
 
-use crate::cells::{get, put};
+use crate::clear;
 use fields::field::Field;
 
 // Sets a part to zero.
@@ -12,9 +12,7 @@ pub fn clear_part<F: Field>(table: &mut [F], base: usize, width: usize)
     ensures zero { poly_at F.ops F.member table.new base width ≡ (series F.ops).zero }
     ensures others { Kept F.ops F.member base width table.old table.new }
 {
-    for k in 0..width {
-        put(table, base + k, F::zero());
-    }
+    clear(&mut table[base..base + width]);
 }
 
 // Copies a part of one table into another.
@@ -23,9 +21,7 @@ pub fn copy_from<F: Field>(source: &[F], from: usize, table: &mut [F], base: usi
     ensures copy { poly_at F.ops F.member table.new base width ≡ poly_at F.ops F.member source.now from width }
     ensures others { Kept F.ops F.member base width table.old table.new }
 {
-    for k in 0..width {
-        put(table, base + k, get(source, from + k));
-    }
+    table[base..base + width].copy_from_slice(&source[from..from + width]);
 }
 
 // Copies a part of a table to another part of it.
@@ -35,72 +31,35 @@ pub fn copy<F: Field>(table: &mut [F], from: usize, base: usize, width: usize)
     ensures copy { poly_at F.ops F.member table.new base width ≡ poly_at F.ops F.member table.old from width }
     ensures others { Kept F.ops F.member base width table.old table.new }
 {
-    for k in 0..width {
-        put(table, base + k, get(table, from + k));
+    table.copy_within(from..from + width, base);
+}
+
+// Multiplies a row by an element.
+pub fn scale<F: Field>(row: &mut [F], factor: F)
+    ensures { at F.ops F.member row.new ≡ scaled F.ops (F.member factor) (at F.ops F.member row.old) }
+{
+    for x in row.iter_mut() {
+        *x = factor.multiply(*x);
     }
 }
 
-// Multiplies a part by an element.
-pub fn scale<F: Field>(table: &mut [F], base: usize, width: usize, factor: F)
-    requires { base + width ≤ length table.old }
-    ensures multiple { poly_at F.ops F.member table.new base width ≡ scaled F.ops (F.member factor) (poly_at F.ops F.member table.old base width) }
-    ensures others { Kept F.ops F.member base width table.old table.new }
+// Adds to a polynomial s^power times an element times another. With power 0 it adds rows.
+pub fn add_multiple<F: Field>(target: &mut [F], power: usize, factor: F, source: &[F])
+    requires { power + length source.now ≤ length target.old }
+    ensures { at F.ops F.member target.new ≡ (series F.ops).sum (at F.ops F.member target.old) (shift F.ops power (scaled F.ops (F.member factor) (at F.ops F.member source.now))) }
 {
-    for k in 0..width {
-        put(table, base + k, factor.multiply(get(table, base + k)));
+    // A proof knows nothing of what was written through `iter_mut` in a `zip`.
+    for (k, y) in source.iter().enumerate() {
+        let x = &mut target[power + k];
+        *x = x.add(factor.multiply(*y));
     }
 }
 
-// Adds to a place the product of an element and another place.
-fn add_product<F: Field>(table: &mut [F], place: usize, factor: F, other: usize)
-    requires { (place < length table.old) × (other < length table.old) }
-    ensures here { at F.ops F.member table.new place ≡ F.ops.sum (at F.ops F.member table.old place) (F.ops.product (F.member factor) (at F.ops F.member table.old other)) }
-    ensures others { Kept F.ops F.member place 1 table.old table.new }
+// Exchanges two rows of one length.
+pub fn swap<F: Field>(left: &mut [F], right: &mut [F])
+    requires { length left.old ≡ length right.old }
+    ensures first { at F.ops F.member left.new ≡ at F.ops F.member right.old }
+    ensures second { at F.ops F.member right.new ≡ at F.ops F.member left.old }
 {
-    let product = factor.multiply(get(table, other));
-    put(table, place, get(table, place).add(product));
-}
-
-// Adds to the polynomial at base s^power times an element times the polynomial at from. With power 0 it adds rows.
-pub fn add_multiple<F: Field>(
-    table: &mut [F],
-    base: usize,
-    power: usize,
-    factor: F,
-    from: usize,
-    width: usize,
-)
-    requires room { (base + power + width ≤ length table.old) × (from + width ≤ length table.old) }
-    requires apart { Apart (base + power) width from width }
-    ensures sum { (count : ℕ) → power + width ≤ count → poly_at F.ops F.member table.new base count ≡ (series F.ops).sum (poly_at F.ops F.member table.old base count) (shift F.ops power (scaled F.ops (F.member factor) (poly_at F.ops F.member table.old from width))) }
-    ensures others { Kept F.ops F.member (base + power) width table.old table.new }
-{
-    for k in 0..width {
-        add_product(table, base + power + k, factor, from + k);
-    }
-}
-
-// Exchanges two places.
-fn exchange<F: Field>(table: &mut [F], left: usize, right: usize)
-    requires { (left < length table.old) × (right < length table.old) }
-    ensures first { at F.ops F.member table.new left ≡ at F.ops F.member table.old right }
-    ensures second { at F.ops F.member table.new right ≡ at F.ops F.member table.old left }
-    ensures others { KeptTwo F.ops F.member left 1 right 1 table.old table.new }
-{
-    let x = get(table, left);
-    put(table, left, get(table, right));
-    put(table, right, x);
-}
-
-// Exchanges two parts.
-pub fn swap<F: Field>(table: &mut [F], left: usize, right: usize, width: usize)
-    requires room { (left + width ≤ length table.old) × (right + width ≤ length table.old) }
-    requires apart { Apart left width right width }
-    ensures first { poly_at F.ops F.member table.new left width ≡ poly_at F.ops F.member table.old right width }
-    ensures second { poly_at F.ops F.member table.new right width ≡ poly_at F.ops F.member table.old left width }
-    ensures others { KeptTwo F.ops F.member left width right width table.old table.new }
-{
-    for k in 0..width {
-        exchange(table, left + k, right + k);
-    }
+    left.swap_with_slice(right);
 }

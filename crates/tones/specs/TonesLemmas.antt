@@ -1,8 +1,10 @@
--- Tones are numbered, keep the laws of a ring, and have inverses. Assumes nothing.
-use Rattle.std.specs.Prelude.{Bool, ◌≡◌, refl, ℕ, zero, suc, ◌+◌, ◌-◌, ◌*◌, ◌/◌, ◌%◌, ◌<◌, eqb, get_or}
+-- Tones are numbered, keep the laws of a ring, and have inverses; the quadratics that have no root. Assumes nothing.
+use Rattle.std.specs.Prelude.{Bool, ◌≡◌, refl, ℕ, zero, suc, ◌+◌, ◌-◌, ◌*◌, ◌/◌, ◌%◌, ◌<◌, ◌≤◌, eqb, get_or}
 use Rattle.std.proofs.Common.{sym, ap, ◌∙◌, add_comm, add-zero, mul_comm, mul_assoc, add-mul, mul-one, arith, eqb→eq}
 use Rattle.std.proofs.Math.Nat.{add-mul-mod_self_left, div-add-mod}
 use Rattle.algebra.specs.Rings.{RingLaws, FieldLaws, Invertible, Numbering}
+use Rattle.fields.specs.Quadratics.{Rootless}
+use Rattle.fields.proofs.Roots.{NoRootBelow, rootless}
 use Rattle.tones.specs.Tones.{number_of, tones, tone_of, tone_ops, inverses}
 use Rattle.tones.specs.declared.Tone.{Tone}
 use Rattle.tones.specs.declared.Tone.TheVariants.{T0, T1, T2, T3, T4, T5, T6, T7, T8, T9, T10, T11, T12, T13, T14, T15, T16, T17, T18, T19, T20, T21, T22, T23, T24, T25, T26, T27, T28, T29, T30}
@@ -140,3 +142,11 @@ inverse_tone x nz =
 
 pub tone_invertible : Invertible tone_ops
 tone_invertible x nz = (tone_of (get_or inverses (number_of x) 0), inverse_tone x nz)
+
+-- a quadratic has no root where a test of all 31 passes
+pub no_root : (t c : Tone) → NoRootBelow tone_ops number_of tone_of 31 t c → Rootless tone_ops t c
+no_root = rootless tone_ops number_of tone_of 31 tone_number number_below refl
+
+-- the codes and the kind of pairs of tones fit their types
+pub small : (31 ≤ 256) × (1 ≤ 253)
+small = (omega arith, omega arith)

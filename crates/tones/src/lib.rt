@@ -4,7 +4,7 @@
 ghost use Rattle.std.specs.Prelude.{◌≡◌, ◌<◌, ◌%◌, get_or};
 ghost use Rattle.tones.specs.Tones.{number_of, tone_of, tone_ops, inverses};
 ghost use Rattle.tones.specs.declared.Tone.{Tone};
-ghost use Rattle.tones.specs.TonesLemmas.{tone_field, tone_numbering};
+ghost use Rattle.tones.specs.TonesLemmas.{tone_field, tone_invertible, tone_numbering};
 
 use fields::fault::FieldFault;
 use fields::field::Field;
@@ -15,7 +15,7 @@ pub mod quadratic;
 const KIND: u8 = 1;
 
 // The residue k is the variant Tk.
-#[derive(Clone, Copy)]
+#[derive(Clone, Copy, PartialEq, Eq, Debug)]
 pub enum Tone {
     T0,
     T1,
@@ -113,7 +113,7 @@ fn wrapped(sum: u16) -> Tone
     if sum < 31 { nth(sum) } else { nth(sum - 31) }
 }
 
-// The number of a tone's inverse.
+// The number of a tone's inverse. One line on this crate's own table, so nibbles has its own too.
 fn inverse_number(number: u16) -> u16
     requires { number < 31 }
     ensures { result ≡ get_or inverses number 0 }
@@ -121,11 +121,12 @@ fn inverse_number(number: u16) -> u16
     INVERSES[number as usize]
 }
 
-fn number(tone: Tone) -> u16
-    ensures value { result ≡ number_of tone }
-    ensures below { result < 31 }
-{
-    tone as u16
+impl From<Tone> for u16 {
+    ghost from_gives = { λ x r. (r ≡ number_of x) × (r < 31) };
+
+    fn from(tone: Tone) -> u16 {
+        tone as u16
+    }
 }
 
 impl Field for Tone {
@@ -143,6 +144,8 @@ impl Field for Tone {
 
     ghost laws = { tone_field };
 
+    ghost invertible = { tone_invertible };
+
     ghost numbered = { tone_numbering };
 
     fn zero() -> Tone {
@@ -154,26 +157,26 @@ impl Field for Tone {
     }
 
     fn add(self, other: Tone) -> Tone {
-        wrapped(number(self) + number(other))
+        wrapped(u16::from(self) + u16::from(other))
     }
 
     fn negate(self) -> Tone {
-        residue(31 - number(self))
+        residue(31 - u16::from(self))
     }
 
     fn multiply(self, other: Tone) -> Tone {
-        residue(number(self) * number(other))
+        residue(u16::from(self) * u16::from(other))
     }
 
     fn inverse(self) -> Option<Tone> {
         match self {
             Tone::T0 => None,
-            _ => Some(residue(inverse_number(number(self)))),
+            _ => Some(residue(inverse_number(u16::from(self)))),
         }
     }
 
     fn same(self, other: Tone) -> bool {
-        number(self) == number(other)
+        self == other
     }
 
     fn size() -> u32 {

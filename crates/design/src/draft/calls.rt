@@ -8,9 +8,7 @@ ghost use Rattle.design.specs.Drafts.{begin_questions, Puts};
 use crate::draft::Draft;
 use crate::fault::DesignFault;
 use fields::field::Field;
-
-// A generators table holds 8 polynomials of 17 coefficients, power k of generator i at 17 i + k.
-const GENERATORS: usize = 136;
+use tables::sizes::{GENERATORS, WIDTH};
 
 impl Draft {
     // Begins a design of n generators, all zero.
@@ -21,7 +19,7 @@ impl Draft {
         if generators.len() != GENERATORS {
             return Err(DesignFault::TableLength);
         }
-        if n < 2 || n > 8 {
+        if !(2..=8).contains(&n) {
             return Err(DesignFault::GeneratorCount);
         }
         tables::clear(generators);
@@ -44,10 +42,10 @@ impl Draft {
         if i >= self.n {
             return Err(DesignFault::NoSuchGenerator);
         }
-        if power > 16 {
+        if power >= WIDTH {
             return Err(DesignFault::PowerTooHigh);
         }
-        generators[17 * i + power] = F::element(code)?;
+        generators[WIDTH * i + power] = F::element(code)?;
         Ok(())
     }
 }

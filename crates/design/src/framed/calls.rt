@@ -9,9 +9,7 @@ use crate::draft::Draft;
 use crate::fault::{DesignFault, HandedBack};
 use crate::framed::Framed;
 use fields::field::Field;
-
-// A frame table holds 8 columns of 8 polynomials of 17 coefficients, and the divisor's 17.
-const FRAME: usize = 1105;
+use tables::sizes::{FRAME, GENERATORS, WIDTH};
 
 impl Framed {
     // Sets the frame to zero and gives a draft, whose generators can be changed again.
@@ -20,10 +18,7 @@ impl Framed {
         ensures table { MatchResult result (λ d. (d.n ≡ self.n) × Cleared F.ops F.member frame.new) (λ e. (e.design ≡ self) × (frame.new ≡ frame.old)) }
     {
         if frame.len() != FRAME {
-            return Err(HandedBack {
-                design: self,
-                fault: DesignFault::TableLength,
-            });
+            return Err(HandedBack::of(self, DesignFault::TableLength));
         }
         tables::clear(frame);
         Ok(Draft::of(self.n))
@@ -45,7 +40,7 @@ impl Framed {
         if i >= self.n || j >= self.n {
             return Err(DesignFault::NoSuchGenerator);
         }
-        let place = 136 * j + 17 * i;
-        Ok(&frame[place..place + 17])
+        let place = GENERATORS * j + WIDTH * i;
+        Ok(&frame[place..place + WIDTH])
     }
 }

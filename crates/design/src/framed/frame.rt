@@ -7,6 +7,7 @@ use crate::fault::{DesignFault, HandedBack};
 use crate::framed::Framed;
 use fields::field::Field;
 use framing::frame_row;
+use tables::sizes::{FRAME, GENERATORS, WORK};
 
 impl Draft {
     // Writes the degree-optimal frame of the generators and gives the framed design; refused, it hands the draft back.
@@ -19,20 +20,12 @@ impl Draft {
         ensures granted { IfOk result (λ x. Frames F.ops F.member self.n generators.now frame.old work.old frame.new work.new x.n x.degree x.divisor x.columns) }
         ensures refused { IfErr result (λ e. FrameRefused F.ops F.member self.n generators.now frame.old work.old work.new e.fault × (e.design ≡ self) × (frame.new ≡ frame.old)) }
     {
-        if generators.len() != 136 || frame.len() != 1105 || work.len() != 4521 {
-            return Err(HandedBack {
-                design: self,
-                fault: DesignFault::TableLength,
-            });
+        if generators.len() != GENERATORS || frame.len() != FRAME || work.len() != WORK {
+            return Err(HandedBack::of(self, DesignFault::TableLength));
         }
-        // Its contract promises that each member but zero has an inverse.
-        let _ = F::one().inverse();
-        match frame_row(self.count(), generators, frame, work) {
-            None => Err(HandedBack {
-                design: self,
-                fault: DesignFault::AllZero,
-            }),
-            Some(numbers) => Ok(Framed::of(self.count(), numbers)),
-        }
+        let Some(numbers) = frame_row(self.count(), generators, frame, work) else {
+            return Err(HandedBack::of(self, DesignFault::AllZero));
+        };
+        Ok(Framed::of(self, numbers))
     }
 }

@@ -1,37 +1,27 @@
-use Rattle.std.proofs.Common.{◌≡◌, ◌+◌, ◌≤◌, length, sym, ap, ◌∙◌, subst, subst₂, add-one, arith}
-use Rattle.elimination.specs.Steps.{column_at, entry_at, rank_after}
-use Rattle.elimination.specs.Echelon.{Echelon, Relations}
-use Rattle.elimination.proofs.Tables.{row_room}
-use Rattle.elimination.proofs.Whole.{Progress, progress_none, progress_more}
+use Rattle.std.proofs.Common.{◌≡◌, ◌+◌, ◌∙◌, subst, arith}
+use Rattle.elimination.specs.Steps.{column_at, entry_at}
+use Rattle.elimination.specs.Echelon.{Echelon}
+use Rattle.elimination.proofs.Whole.{Progress, progress_more}
 use Rattle.elimination.proofs.eliminate.Goals as goal
-use Rattle.elimination.proofs.eliminate.Goals.{then-take_next, else-take_next}
-
-pub take_next-requires : goal.take_next-requires
-take_next-requires g c = record {
-  room = (omega (arith, c.requires.room, c.loop-q.auto), (omega (arith, c.requires.room, c.loop-q.auto), (omega (arith, c.requires.room, c.loop-q.auto), omega (arith, c.requires.room, c.loop-q.auto, row_room c.args.rows c.loop-q.q c.args.columns c.loop-q-test.true))));
-  valid = c.loop-q.invariant.eliminated.valid;
-}
-
-pub loop-q-init : goal.loop-q-init
-loop-q-init g c = let f = g.F.Field in progress_none f.ops f.member g.met.F.Field.laws.ring c.args.rows c.args.matrix.now c.args.steps.now c.args.pivots.now c.args.places.now
 
 pub loop-q-preserved : goal.loop-q-preserved
 loop-q-preserved g c =
     let f = g.F.Field in
-    let rank : rank_after c.loop-q.rank c.take_next.result ≡ c.if-take_next.rank = elim c.if-take_next.branch [
-      | then-take_next w ↦ ap (rank_after c.loop-q.rank) w.if-take_next.true ∙ sym (w.rank-is ∙ add-one c.loop-q.rank)
-      | else-take_next w ↦ ap (rank_after c.loop-q.rank) w.if-take_next.false ∙ sym w.rank-is
-    ] in
-    let room : c.args.rows ≤ length c.loop-q.places = omega (arith, c.requires.room, c.loop-q.auto) in
-    subst₂ (λ k ps. Progress f.ops f.member c.args.rows c.args.matrix.now (c.loop-q.q + 1) k c.take_next.new.steps c.take_next.new.pivots ps c.take_next.new.matrix) rank (sym c.take_next.ensures.placed)
-    (progress_more f.ops f.member g.met.F.Field.laws.ring c.args.rows c.args.matrix.now c.loop-q.q c.loop-q.rank c.loop-q.steps c.loop-q.pivots c.loop-q.places c.loop-q.matrix c.loop-q.invariant
-    c.take_next.new.steps c.take_next.new.pivots c.take_next.new.matrix c.take_next.ensures.before c.take_next.ensures.behind c.take_next.result c.take_next.ensures.bound room c.take_next.ensures.takes)
-
-pub returns : goal.returns
-returns g c =
-    let f = g.F.Field in
-    let all : c.loop-q.q ≡ c.args.columns = omega (arith, c.loop-q.auto, c.loop-q-test.false) in
+    let s = c.loop-q.steps in
+    let n = c.take_next.new in
+    let t = c.take_next.ensures in
+    let old : Progress f.ops f.member s.rows c.args.matrix.now c.loop-q.q s.rank s.factors.now s.pivots.now c.loop-q.places c.loop-q.matrix = rw c.loop-q.invariant.rows c.loop-q.invariant.progress in
+    let next : Progress f.ops f.member s.rows c.args.matrix.now (c.loop-q.q + 1) n.self.rank n.self.factors.now n.self.pivots.now n.places n.matrix = rw (t.counted.1, t.placed)
+    (progress_more f.ops f.member g.met.F.Field.laws.ring s.rows c.args.matrix.now c.loop-q.q s.rank s.factors.now s.pivots.now c.loop-q.places c.loop-q.matrix old
+    n.self.factors.now n.self.pivots.now n.matrix t.before t.behind c.take_next.result t.bound (omega (arith, c.requires.room, c.loop-q.auto, c.loop-q.invariant.rows)) t.takes) in
     record {
-      echelon = subst (λ q. Echelon f.ops c.args.rows (column_at f.ops f.member c.args.rows c.args.matrix.now) q c.loop-q.rank (entry_at c.loop-q.places)) all c.loop-q.invariant.eliminated.echelon;
-      relations = subst (λ q. Relations f.ops c.args.rows (column_at f.ops f.member c.args.rows c.args.matrix.now) (column_at f.ops f.member c.args.rows c.loop-q.matrix) q c.loop-q.rank (entry_at c.loop-q.places)) all c.loop-q.invariant.relations;
+      rows = t.counted.0 ∙ c.loop-q.invariant.rows;
+      progress = subst (λ k. Progress f.ops f.member k c.args.matrix.now (c.loop-q.q + 1) n.self.rank n.self.factors.now n.self.pivots.now n.places n.matrix) c.loop-q.invariant.rows next;
     }
+
+pub returns-clause-echelon : goal.returns-clause-echelon
+returns-clause-echelon g c =
+    let f = g.F.Field in
+    let s = c.loop-q.steps in
+    let all : c.loop-q.q ≡ c.args.columns = omega (arith, c.loop-q.auto, c.loop-q-test.false) in
+    subst (λ q. Echelon f.ops c.args.rows (column_at f.ops f.member c.args.rows c.args.matrix.now) q s.rank (entry_at c.loop-q.places)) all c.loop-q.invariant.progress.eliminated.echelon

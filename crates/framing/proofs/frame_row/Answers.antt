@@ -1,4 +1,4 @@
-use Rattle.std.proofs.Common.{◌≡◌, ℕ, suc, ◌-◌, ◌≤◌, sym, subst, arith, rules}
+use Rattle.std.proofs.Common.{◌≡◌, ℕ, suc, ◌-◌, ◌≤◌, sym, subst, subst₂, arith, rules}
 use Rattle.algebra.specs.Series.{Degree}
 use Rattle.algebra.specs.Divisors.{AllZero}
 use Rattle.algebra.specs.Frames.{IsFrame}
@@ -11,9 +11,9 @@ use Rattle.framing.proofs.frame_row.Goals as goal
 pub write_frame-requires : goal.write_frame-requires
 write_frame-requires g c =
     let f = g.F.Field in
-    let field = field_of g.met.F.Field.laws g.met.F.Field.numbered c.inverse.ensures.invertible in
-    let all = c.in-Some.ensures in
-    let low = degrees_within f.ops field f.member c.args.n c.in-Some.degrees.divisor c.in-Some.degrees.row c.args.generators.now c.divide_by_gcd.new.work all in
+    let field = field_of g.met.F.Field.laws g.met.F.Field.numbered g.met.F.Field.invertible in
+    let all = c.in_ok-degrees.ensures in
+    let low = degrees_within f.ops field f.member c.args.n c.in_ok-degrees.degrees.divisor c.in_ok-degrees.degrees.row c.args.generators.now c.divide_by_gcd.new.work all in
     record {
       sized = (omega arith, (omega arith, omega arith));
       room = (search rules, search rules);
@@ -21,39 +21,42 @@ write_frame-requires g c =
       coprime = DividedRows.one_is_combination f.ops field c.args.n (generator_in f.ops f.member c.args.generators.now) (gcd_in f.ops f.member c.divide_by_gcd.new.work) (quotient_in f.ops f.member c.divide_by_gcd.new.work) all.gcd all.divided;
     }
 
-pub pack_degrees-requires : goal.pack_degrees-requires
-pack_degrees-requires g c =
+pub of-requires : goal.of-requires
+of-requires g c =
     let f = g.F.Field in
-    let field = field_of g.met.F.Field.laws g.met.F.Field.numbered c.inverse.ensures.invertible in
-    let all = c.in-Some.ensures in
+    let field = field_of g.met.F.Field.laws g.met.F.Field.numbered g.met.F.Field.invertible in
+    let all = c.in_ok-degrees.ensures in
     let n = c.args.n in
     let two : 2 ≤ n = omega arith in
     let e : n ≡ suc (n - 1) = omega arith in
-    let frame = frame_of_columns f.ops field n two (generator_in f.ops f.member c.args.generators.now) (gcd_in f.ops f.member c.divide_by_gcd.new.work) (quotient_in f.ops f.member c.divide_by_gcd.new.work) c.in-Some.degrees.row (column_in f.ops f.member c.write_frame.new.frame) all.gcd all.divided all.highest c.write_frame.ensures.columns in
+    let frame = frame_of_columns f.ops field n two (generator_in f.ops f.member c.args.generators.now) (gcd_in f.ops f.member c.divide_by_gcd.new.work) (quotient_in f.ops f.member c.divide_by_gcd.new.work) c.in_ok-degrees.degrees.row (column_in f.ops f.member c.write_frame.new.frame) all.gcd all.divided all.highest c.write_frame.ensures.columns in
     record {
-      room = (omega arith, (omega arith, search rules));
+      room = (omega arith, search rules);
       nonzero = λ k h none. columns_nonzero f.ops field (n - 1) _ _ _ _ frame k (omega arith) (subst (λ (i : ℕ). AllZero f.ops i (column_in f.ops f.member c.write_frame.new.frame k)) e none);
     }
 
-pub returns-in-Some : goal.returns-in-Some
-returns-in-Some g c =
+pub returns : goal.returns
+returns g c =
     let f = g.F.Field in
     let R = f.Member in
-    let field = field_of g.met.F.Field.laws g.met.F.Field.numbered c.inverse.ensures.invertible in
-    let all = c.in-Some.ensures in
+    let field = field_of g.met.F.Field.laws g.met.F.Field.numbered g.met.F.Field.invertible in
+    let all = c.in_ok-degrees.ensures in
     let n = c.args.n in
     let two : 2 ≤ n = omega arith in
     let row = generator_in f.ops f.member c.args.generators.now in
     let columns = column_in f.ops f.member c.write_frame.new.frame in
-    let frame = frame_of_columns f.ops field n two row (gcd_in f.ops f.member c.divide_by_gcd.new.work) (quotient_in f.ops f.member c.divide_by_gcd.new.work) c.in-Some.degrees.row columns all.gcd all.divided all.highest c.write_frame.ensures.columns in
+    let d = c.in_ok-degrees.degrees.row in
+    let frame = frame_of_columns f.ops field n two row (gcd_in f.ops f.member c.divide_by_gcd.new.work) (quotient_in f.ops f.member c.divide_by_gcd.new.work) d columns all.gcd all.divided all.highest c.write_frame.ensures.columns in
+    let same = sym c.write_frame.ensures.divisor in
+    let numbers = c.of.ensures.degrees in
     record {
       answer =
           record {
-            is_frame = subst (λ (d : ℕ → R). IsFrame f.ops (n - 1) row d c.in-Some.degrees.row columns) (sym c.write_frame.ensures.divisor) frame;
-            divisor_degree = subst (λ (d : ℕ → R). Degree f.ops d c.in-Some.degrees.divisor) (sym c.write_frame.ensures.divisor) all.degree;
-            column_degrees = c.pack_degrees.ensures.degrees;
+            is_frame = subst₂ (λ (h : ℕ → R) (k : ℕ). IsFrame f.ops (n - 1) row h k columns) same (sym numbers.0) frame;
+            divisor_degree = subst₂ (λ (h : ℕ → R) (k : ℕ). Degree f.ops h k) same (sym numbers.1) all.degree;
+            column_degrees = c.of.ensures.columns;
             rest = c.write_frame.ensures.rest;
-            within = degrees_within f.ops field f.member n c.in-Some.degrees.divisor c.in-Some.degrees.row c.args.generators.now c.divide_by_gcd.new.work all;
+            within = let low = degrees_within f.ops field f.member n c.in_ok-degrees.degrees.divisor d c.args.generators.now c.divide_by_gcd.new.work all in omega arith;
           };
       cleared = c.clear.ensures;
     }

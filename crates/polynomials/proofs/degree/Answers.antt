@@ -1,30 +1,17 @@
-use Rattle.std.proofs.Common.{suc, ◌-◌, sym, ◌∙◌, arith}
-use Rattle.algebra.proofs.Bounds.{below_mono, below_top}
-use Rattle.tables.specs.Places.{poly_at}
-use Rattle.tables.proofs.Parts.{poly_at_in, poly_at_below}
+use Rattle.std.proofs.Common.{length, List, subst, refl, rules, Iter, Bor}
+use borrow.Author.Tests.{tests}
+use Rattle.std.specs.Iterator.Runs.{ItemsMapToReversed}
+use Rattle.tables.specs.Places.{at}
+use Rattle.polynomials.specs.Polynomials.{DegreeOf}
+use Rattle.polynomials.proofs.Highest.{degree_found}
 use Rattle.polynomials.proofs.degree.Goals as goal
 
-pub loop-k-init : goal.loop-k-init
-loop-k-init g c = let f = g.F.Field in poly_at_below f.ops f.member c.args.table.now c.args.base c.args.width
-
-pub returns-then-not-same : goal.returns-then-not-same
-returns-then-not-same g c =
+pub returns : goal.returns
+returns g c =
     let f = g.F.Field in
-    let p = poly_at f.ops f.member c.args.table.now c.args.base c.args.width in
-    let k = c.loop-k.k - 1 in (
-      omega arith,
-      record {
-        top = λ z. c.if-not-same.ensures (c.get.ensures ∙ sym (poly_at_in f.ops f.member c.args.table.now c.args.base c.args.width k (omega arith)) ∙ z ∙ sym c.zero.ensures);
-        below = below_mono f.ops g.met.F.Field.laws.ring c.loop-k.k (suc k) p (omega arith) c.loop-k.invariant;
-      },
-    )
-
-pub loop-k-preserved : goal.loop-k-preserved
-loop-k-preserved g c =
-    let f = g.F.Field in
-    let L = g.met.F.Field.laws.ring in
-    let p = poly_at f.ops f.member c.args.table.now c.args.base c.args.width in
-    let k = c.loop-k.k - 1 in
-    below_top f.ops L k p
-    (below_mono f.ops L c.loop-k.k (suc k) p (omega arith) c.loop-k.invariant)
-    (poly_at_in f.ops f.member c.args.table.now c.args.base c.args.width k (omega arith) ∙ sym c.get.ensures ∙ c.if-not-same.ensures ∙ c.zero.ensures)
+    let run = c.rposition.ensures.runs in
+    let p = run.0 in
+    let items = subst (λ (s : Iter g.row.F.Denot). ItemsMapToReversed p (λ (y : Bor g.row.F.Denot). y.now) s.rest.now) run.1 (c.iter.ensures.runs_back p p.seen) in
+    subst (λ (xs : List g.row.F.Denot). DegreeOf f.ops (length xs) (at f.ops f.member xs) c.rposition.result) c.iter.ensures.rest
+    (degree_found f.ops f.member (λ (y : Bor g.row.F.Denot). y.now) _ _ _ c.iter.result.rest.now p c.rposition.result items c.rposition.ensures.bound run.2
+    (λ a r h called. refl) (λ x called. search (rules, tests)) (λ x called. search (rules, tests)))

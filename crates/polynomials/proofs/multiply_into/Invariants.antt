@@ -1,5 +1,9 @@
-use Rattle.polynomials.proofs.Divisions.{Multiplied}
+use Rattle.std.proofs.Common.{◌≡◌}
+use Rattle.algebra.specs.Series.{series}
+use Rattle.tables.specs.Places.{at, poly_at}
 use Rattle.polynomials.proofs.multiply_into.Given as goal
 
 abbrev pub invariant-loop-k : goal.invariant-loop-k
-invariant-loop-k g l = let f = g.F.Field in Multiplied f.ops g.met.F.Field.laws.ring f.member l.base l.left l.left_width l.right l.right_width l.k l.initial.table l.table
+invariant-loop-k g l =
+    let f = g.F.Field in
+    at f.ops f.member l.target ≡ (series f.ops).sum (at f.ops f.member l.initial.target) ((series f.ops).product (poly_at f.ops f.member l.left 0 l.k) (at f.ops f.member l.right))

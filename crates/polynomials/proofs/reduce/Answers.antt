@@ -1,24 +1,30 @@
-use Rattle.std.proofs.Common.{◌-◌, arith}
-use Rattle.polynomials.proofs.Divisions.{reduced_none, reduced_step, reduced_all}
+use Rattle.std.proofs.Common.{◌≡◌, ◌+◌, ◌-◌, ◌∙◌, length, ap, arith}
+use Rattle.tables.specs.Places.{at}
+use Rattle.tables.proofs.Slices.{at_below}
+use Rattle.polynomials.proofs.Divisions.{degree_within, reduced_none, reduced_step, reduced_all}
 use Rattle.polynomials.proofs.reduce.Goals as goal
 
-pub loop-k-init : goal.loop-k-init
-loop-k-init g c = let f = g.F.Field in reduced_none f.ops g.met.F.Field.laws.ring f.member c.args.base c.args.width c.args.divisor c.args.e c.args.table.now
+pub inverse_at-inverse-requires : goal.inverse_at-inverse-requires
+inverse_at-inverse-requires g c = let f = g.F.Field in record { room = degree_within f.ops g.met.F.Field.laws.ring f.member c.args.divisor.now c.args.e c.requires; nonzero = c.requires.top }
 
-pub cancel-requires : goal.cancel-requires
-cancel-requires g c = record { room = (omega arith, (omega arith, omega arith)); apart = λ k w v. c.requires.apart k (omega arith, omega arith) v }
+pub loop-k-init : goal.loop-k-init
+loop-k-init g c =
+    let f = g.F.Field in
+    let p = c.args.dividend.now in
+    reduced_none f.ops g.met.F.Field.laws.ring (length p) (at f.ops f.member p) (at f.ops f.member c.args.divisor.now) (at_below f.ops f.member p (length p) (omega arith))
 
 pub loop-k-preserved : goal.loop-k-preserved
 loop-k-preserved g c =
     let f = g.F.Field in
     let k = c.loop-k.k - 1 in
-    reduced_step f.ops g.met.F.Field.laws.ring f.member c.args.base c.args.width c.args.divisor c.args.e c.loop-k.k k (k - c.args.e) (f.member c.cancel.result) (f.member c.args.inverse) c.args.table.now c.loop-k.table c.cancel.new.table
-    c.requires.apart c.requires.unit (omega arith) (omega arith) (omega arith) c.cancel.ensures.ratio (c.cancel.ensures.rest c.args.width (omega arith)) c.cancel.ensures.others c.loop-k.invariant
+    let place : k - c.args.e + c.args.e ≡ k = omega arith in
+    reduced_step f.ops g.met.F.Field.laws.ring c.args.e c.loop-k.k k (k - c.args.e) (f.member c.cancel.result) (f.member c.inverse_at-inverse.result)
+    (at f.ops f.member c.args.dividend.now) (at f.ops f.member c.args.divisor.now) (at f.ops f.member c.loop-k.dividend) (at f.ops f.member c.cancel.new.target)
+    c.requires.below c.inverse_at-inverse.ensures (omega arith) (omega arith)
+    (c.cancel.ensures.ratio ∙ ap (λ i. f.ops.product (f.member c.inverse_at-inverse.result) (at f.ops f.member c.loop-k.dividend i)) place)
+    c.cancel.ensures.rest c.loop-k.invariant
 
 pub returns : goal.returns
 returns g c =
     let f = g.F.Field in
-    record {
-      remainder = reduced_all f.ops g.met.F.Field.laws.ring f.member c.args.base c.args.width c.args.divisor c.args.e c.loop-k.k c.args.table.now c.loop-k.table (omega arith) c.loop-k.invariant;
-      others = c.loop-k.invariant.2;
-    }
+    reduced_all f.ops g.met.F.Field.laws.ring c.args.e c.loop-k.k (at f.ops f.member c.args.dividend.now) (at f.ops f.member c.args.divisor.now) (at f.ops f.member c.loop-k.dividend) (omega arith) c.loop-k.invariant

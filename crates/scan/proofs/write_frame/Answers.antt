@@ -15,10 +15,7 @@ scan-requires g c =
     let parts = c.split_at_mut-tables in
     let row : quotient_in f.ops f.member c.args.work.now ≡ generator_in f.ops f.member parts.result.1.now = row_part f.ops f.member c.args.work.now parts.result.0.now parts.result.1.now parts.ensures.value parts.ensures.front_len in
     record {
-      sized = c.requires.sized;
-      room = (omega arith, (omega arith, (simp length-take (omega arith), omega arith)));
-      field = c.inverse.ensures.invertible;
-      degree = subst (λ (r : ℕ → ℕ → f.Member). VectorDegree f.ops c.args.n r c.args.d) row c.requires.degree;
+      room = (omega arith, (simp length-take (omega arith), omega arith));
       coprime = subst (λ (r : ℕ → ℕ → f.Member). Combination f.ops c.args.n r (series f.ops).one) row c.requires.coprime;
       cleared = λ k l. c.copy_from.ensures.others k (λ w. omega arith) ∙ cleared_part f.ops f.member c.clear_part.new.table 1088 c.clear_part.ensures.zero k l;
     }
@@ -33,3 +30,10 @@ returns g c =
       divisor = part_same f.ops f.member c.copy_from.new.table c.scan.new.frame 1088 17 (gcd_in f.ops f.member c.args.work.now) c.scan.ensures.behind c.copy_from.ensures.copy;
       rest = c.scan.ensures.rest;
     }
+
+pub invariant_of-row-clause-degree : goal.invariant_of-row-clause-degree
+invariant_of-row-clause-degree g c =
+    let f = g.F.Field in
+    let parts = c.split_at_mut-tables in
+    let row : quotient_in f.ops f.member c.args.work.now ≡ generator_in f.ops f.member parts.result.1.now = row_part f.ops f.member c.args.work.now parts.result.0.now parts.result.1.now parts.ensures.value parts.ensures.front_len in
+    ∣ subst (λ (r : ℕ → ℕ → f.Member). VectorDegree f.ops c.args.n r c.args.d) row c.requires.degree ∣₁

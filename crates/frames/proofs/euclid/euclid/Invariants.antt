@@ -1,18 +1,19 @@
-use Rattle.std.proofs.Common.{◌≤◌}
+use Rattle.std.proofs.Common.{◌≤◌, length}
 use Rattle.algebra.specs.Series.{Below}
-use Rattle.tables.specs.Places.{KeptTwo, poly_at}
+use Rattle.tables.specs.Places.{at}
 use Rattle.frames.specs.Common.{SameCommon}
 use Rattle.frames.proofs.euclid.euclid.Given as goal
 
 abbrev pub invariant-loop-e : goal.invariant-loop-e
 invariant-loop-e g l =
     let f = g.F.Field in
-    SameCommon f.ops (poly_at f.ops f.member l.initial.table l.left l.width) (poly_at f.ops f.member l.initial.table l.right l.width) (poly_at f.ops f.member l.table l.left l.width) (poly_at f.ops f.member l.table l.right l.width)
-    × Below f.ops l.upper (poly_at f.ops f.member l.table l.left l.width)
-    × Below f.ops l.lower (poly_at f.ops f.member l.table l.right l.width)
-    × (l.upper ≤ l.width)
-    × (l.lower ≤ l.width)
-    × KeptTwo f.ops f.member l.left l.width l.right l.width l.initial.table l.table
+    record {
+      common : SameCommon f.ops (at f.ops f.member l.initial.left) (at f.ops f.member l.initial.right) (at f.ops f.member l.left) (at f.ops f.member l.right);
+      upper : Below f.ops l.upper (at f.ops f.member l.left);
+      lower : Below f.ops l.lower (at f.ops f.member l.right);
+      left_room : l.upper ≤ length l.left;
+      right_room : l.lower ≤ length l.right;
+    }
 
 abbrev pub decreases-loop-e : goal.decreases-loop-e
 decreases-loop-e g l = l.lower

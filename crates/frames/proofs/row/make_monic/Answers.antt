@@ -1,23 +1,18 @@
-use Rattle.std.proofs.Common.{◌∙◌, arith}
+use Rattle.std.proofs.Common.{Option, ℕ, sym, subst, arith}
 use Rattle.algebra.proofs.Fields.{field_of}
-use Rattle.tables.proofs.Parts.{poly_at_in}
+use Rattle.tables.specs.Places.{at}
+use Rattle.frames.specs.Common.{MadeMonic}
 use Rattle.frames.proofs.RowSteps.{monic_like}
 use Rattle.frames.proofs.row.make_monic.Goals as goal
 
-pub inverse_at-inverse-requires : goal.inverse_at-inverse-requires
-inverse_at-inverse-requires g c =
+pub returns-in_err-e : goal.returns-in_err-e
+returns-in_err-e g c =
     let f = g.F.Field in
-    let d = c.in-Some.ensures in
-    record {
-      room = omega (arith, d.0);
-      nonzero = λ z. d.1.top (poly_at_in f.ops f.member c.args.work.now 4368 17 c.in-Some.e d.0 ∙ z);
-    }
+    subst (λ (r : Option ℕ). MadeMonic f.ops (at f.ops f.member c.args.divisor.now) (at f.ops f.member c.args.divisor.now) r) (sym c.from_residual.ensures) (c.in_err-e.ensures, c.in_err-e.ensures)
 
-pub returns-in-Some : goal.returns-in-Some
-returns-in-Some g c =
+pub returns : goal.returns
+returns g c =
     let f = g.F.Field in
-    let d = c.in-Some.ensures in
-    record {
-      monic = monic_like f.ops g.met.F.Field.laws.ring f.member (field_of g.met.F.Field.laws g.met.F.Field.numbered c.inverse_at-inverse.ensures.invertible) c.in-Some.e (f.member c.inverse_at-inverse.result) c.args.work.now c.scale.new.table d.0 d.1 c.inverse_at-inverse.ensures.value c.scale.ensures.multiple;
-      others = c.scale.ensures.others;
-    }
+    let d = c.in_ok-e.ensures in
+    monic_like f.ops (field_of g.met.F.Field.laws g.met.F.Field.numbered g.met.F.Field.invertible) c.in_ok-e.e (f.member c.inverse_at-inverse.result)
+    (at f.ops f.member c.args.divisor.now) (at f.ops f.member c.scale.new.row) (omega (arith, d.0)) d.1 c.inverse_at-inverse.ensures c.scale.ensures

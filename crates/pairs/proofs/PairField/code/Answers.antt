@@ -10,6 +10,6 @@ overflow_cast-result-3 g c =
     let one : c.code.result < n = omega (arith, c.code.ensures) in
     let other : c.code-2.result < n = omega (arith, c.code-2.ensures) in
     let below = digits_below n c.code.result c.code-2.result one other in
-    let square = square_below n 256 c.t.ensures.limits.0 in
+    let square = square_below n 256 g.met.F.Quadratic.limits.0 in
     let size = ap (λ (s : ℕ). s * c.code-2.result) c.size.ensures.value in
     record { fits = omega arith }

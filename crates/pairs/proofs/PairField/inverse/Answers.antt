@@ -1,48 +1,39 @@
-use Rattle.pairs.specs.Pairs.{pair}
+use Rattle.std.proofs.Common.{subst, sym}
+use Rattle.std.specs.Option.{option_map}
+use Rattle.fields.specs.Elements.{Inverts}
+use Rattle.pairs.specs.Pairs.{pair, pair_ops}
 use Rattle.pairs.specs.Codes.{decide_zero}
-use Rattle.pairs.specs.Laws.{steps_invert, norm_zero, pair_invertible}
+use Rattle.pairs.specs.Laws.{steps_invert, norm_zero}
 use Rattle.pairs.proofs.PairField.inverse.Goals as goal
 
-pub returns-in-Some : goal.returns-in-Some
-returns-in-Some g c =
+pub returns : goal.returns
+returns g c =
     let o = g.F.Field.ops in
     let m = g.F.Field.member in
-    let t = m g.F.Quadratic.linear in
-    let k = m g.F.Quadratic.constant in
-    let F = g.met.F.Field.laws in
-    record {
-      value =
-          steps_invert o t k F.ring (pair (m c.args.self.low) (m c.args.self.high))
-          (m c.in-Some.over)
-          (m c.t.result)
-          (m c.multiply.result)
-          (m c.subtract.result)
-          (m c.negate.result)
-          (m c.multiply-in-Some.result)
-          (m c.multiply-in-Some-2.result)
-          (m c.divisor.result)
-          c.t.ensures.value
-          c.multiply.ensures
-          c.subtract.ensures
-          c.negate.ensures
-          c.multiply-in-Some.ensures
-          c.multiply-in-Some-2.ensures
-          c.divisor.ensures
-          c.in-Some.ensures.value;
-      invertible = pair_invertible o t k F (decide_zero g.met.F.Field.numbered) c.inverse.ensures.invertible c.t.ensures.rootless;
-    }
+    steps_invert o (m g.F.Quadratic.linear) (m g.F.Quadratic.constant) g.met.F.Field.laws.ring (pair (m c.args.self.low) (m c.args.self.high))
+    (m c.in_ok-over.over)
+    (m c.t.result)
+    (m c.multiply.result)
+    (m c.subtract.result)
+    (m c.negate.result)
+    (m c.multiply-2.result)
+    (m c.multiply-3.result)
+    (m c.divisor.result)
+    c.t.ensures
+    c.multiply.ensures
+    c.subtract.ensures
+    c.negate.ensures
+    c.multiply-2.ensures
+    c.multiply-3.ensures
+    c.divisor.ensures
+    c.in_ok-over.ensures
 
-pub returns-in-None : goal.returns-in-None
-returns-in-None g c =
+pub returns-in_err-over : goal.returns-in_err-over
+returns-in_err-over g c =
     let o = g.F.Field.ops in
     let m = g.F.Field.member in
     let t = m g.F.Quadratic.linear in
     let k = m g.F.Quadratic.constant in
     let x = pair (m c.args.self.low) (m c.args.self.high) in
-    let F = g.met.F.Field.laws in
-    let decide = decide_zero g.met.F.Field.numbered in
-    let inverts = c.inverse.ensures.invertible in
-    record {
-      value = norm_zero o t k F decide inverts c.t.ensures.rootless x (m c.divisor.result) c.divisor.ensures c.in-None.ensures.value;
-      invertible = pair_invertible o t k F decide inverts c.t.ensures.rootless;
-    }
+    subst (λ r. Inverts (pair_ops o t k) x (option_map (λ y. pair (m y.low) (m y.high)) r)) (sym c.from_residual.ensures)
+    (norm_zero o t k g.met.F.Field.laws (decide_zero g.met.F.Field.numbered) g.met.F.Field.invertible g.met.F.Quadratic.rootless x (m c.divisor.result) c.divisor.ensures c.in_err-over.ensures)

@@ -7,5 +7,5 @@ returns g c =
     let n = g.F.Field.order in
     record {
       value = omega (arith, ap₂ ◌*◌ c.size.ensures.value c.size-2.ensures.value);
-      limits = (omega (arith, square_below 2 n c.size.ensures.limits.0), square_below n 256 c.t.ensures.limits.0);
+      limits = (omega (arith, square_below 2 n c.size.ensures.limits.0), square_below n 256 g.met.F.Quadratic.limits.0);
     }

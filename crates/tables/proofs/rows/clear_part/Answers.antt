@@ -1,12 +1,12 @@
-use mathlib.Core.Path.{refl}
-use native.Mathlib.Omega.{arith}
-use Rattle.tables.proofs.Parts.{poly_at_filled, kept_filled}
+use Rattle.std.proofs.Common.{◌+◌, ◌∙◌, arith}
+use mathlib.Core.Path.{fun_ext}
+use Rattle.tables.proofs.Slices.{put_range, kept_range}
 use Rattle.tables.proofs.rows.clear_part.Goals as goal
 
 pub returns : goal.returns
 returns g c =
     let f = g.F.Field in
     record {
-      zero = poly_at_filled f.ops f.member (λ j. f.ops.zero) c.args.base c.loop-k.k c.args.width c.args.table.now c.loop-k.table c.loop-k.invariant (omega arith) (λ k h. refl);
-      others = kept_filled f.ops f.member (λ j. f.ops.zero) c.args.base c.loop-k.k c.args.width c.args.table.now c.loop-k.table c.loop-k.invariant (omega arith);
+      zero = put_range f.ops f.member c.args.base (c.args.base + c.args.width) c.args.width c.args.table.now c.clear.new.table (omega arith) (omega arith) c.clear.auto.table ∙ fun_ext c.clear.ensures;
+      others = kept_range f.ops f.member c.args.base (c.args.base + c.args.width) c.args.width c.args.table.now c.clear.new.table (omega arith) (omega arith) c.clear.auto.table;
     }

@@ -1,13 +1,19 @@
-use Prim.Native.Nat.{◌+◌}
-use native.Mathlib.Omega.{arith}
+use Rattle.std.proofs.Common.{◌≡◌, get_or, sym, ap, ◌∙◌, arith}
 use Rattle.tables.specs.Places.{at}
-use Rattle.tables.proofs.Parts.{poly_at_scaled, kept_filled}
+use Rattle.tables.proofs.Places.{at_read}
+use Rattle.tables.proofs.Slices.{written_more, scaled_is}
 use Rattle.tables.proofs.rows.scale.Goals as goal
+
+pub loop-x-preserved : goal.loop-x-preserved
+loop-x-preserved g c =
+    let f = g.F.Field in
+    let k = c.loop-x.x-index in
+    let was : f.member (get_or c.loop-x.row k c.x-item.result) ≡ at f.ops f.member c.args.row.now k =
+    sym (at_read f.ops f.member c.loop-x.row k c.x-item.result (omega arith)) ∙ c.loop-x.invariant.1 k (λ w. omega arith) in
+    written_more f.ops f.member (λ k. f.ops.product (f.member c.args.factor) (at f.ops f.member c.args.row.now k)) 0 k k c.args.row.now c.loop-x.row c.multiply.result
+    c.loop-x.invariant (omega arith) (omega arith) (c.multiply.ensures ∙ ap (f.ops.product (f.member c.args.factor)) was)
 
 pub returns : goal.returns
 returns g c =
     let f = g.F.Field in
-    record {
-      multiple = poly_at_scaled f.ops f.member g.met.F.Field.laws.ring (f.member c.args.factor) c.args.base c.loop-k.k c.args.width c.args.table.now c.loop-k.table c.loop-k.invariant (omega arith);
-      others = kept_filled f.ops f.member (λ j. f.ops.product (f.member c.args.factor) (at f.ops f.member c.args.table.now (c.args.base + j))) c.args.base c.loop-k.k c.args.width c.args.table.now c.loop-k.table c.loop-k.invariant (omega arith);
-    }
+    scaled_is f.ops f.member g.met.F.Field.laws.ring (f.member c.args.factor) c.loop-x.x-index c.args.row.now c.loop-x.row c.loop-x.invariant (omega arith)

@@ -2,18 +2,14 @@ use mathlib.Core.Path.{◌∙◌, ap}
 use Prim.Native.Nat.{◌*◌}
 use lib.ListN.{get_or}
 use Rattle.tones.specs.Tones.{number_of, tone_of, inverses}
-use Rattle.tones.specs.TonesLemmas.{inverse_tone, tone_invertible}
+use Rattle.tones.specs.TonesLemmas.{inverse_tone}
 use Rattle.tones.proofs.ToneField.inverse.Goals as goal
 
 pub returns-in-T0 : goal.returns-in-T0
-returns-in-T0 c = record { value = c.in-T0.is; invertible = tone_invertible }
+returns-in-T0 c = c.in-T0.is
 
 pub returns-in_default : goal.returns-in_default
 returns-in_default c =
-    record {
-      value =
-          ap (λ r. tone_of (number_of c.args.self * number_of r))
-          (c.residue.ensures.value ∙ ap tone_of (c.inverse_number.ensures ∙ ap (λ k. get_or inverses k 0) c.number.ensures.value))
-          ∙ inverse_tone c.args.self c.in_default.not-T0;
-      invertible = tone_invertible;
-    }
+    ap (λ r. tone_of (number_of c.args.self * number_of r))
+    (c.residue.ensures.value ∙ ap tone_of (c.inverse_number.ensures ∙ ap (λ k. get_or inverses k 0) c.from.ensures.0))
+    ∙ inverse_tone c.args.self c.in_default.not-T0

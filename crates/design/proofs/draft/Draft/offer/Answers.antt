@@ -1,4 +1,4 @@
-use Rattle.std.proofs.Common.{ℕ, ◌-◌, sym, refl, ◌∙◌, subst, subst₂, rules}
+use Rattle.std.proofs.Common.{ℕ, ◌-◌, sym, ◌∙◌, subst, subst₂, rules}
 use Rattle.frames.specs.Rows.{generator_in}
 use Rattle.framing.specs.Framing.{column_in}
 use Rattle.judging.specs.Offers.{Objects, OptimalFor, HoldsOffer}
@@ -11,33 +11,32 @@ returns-in-Err g c =
     let row = generator_in f.ops f.member c.args.generators.now in
     let columns = column_in f.ops f.member c.args.offered.now in
     let said = c.in-Err.ensures in
+    let handed = c.of-in-Err.ensures in
     let objects = subst (λ (k : ℕ). Objects f.ops k (k - 1) row columns c.in-Err.objection) c.count.ensures said.answer.0 in
-    let none = subst (λ (k : ℕ). OptimalFor f.ops (k - 1) row columns → ⊥) c.count.ensures said.exact in
     record {
       granted = tt;
-      refused = (by_objection (search rules) c.in-Err.objection c.refusal.ensures objects said.cleared, refl, said.answer.1);
-      exact = λ asked. none;
+      refused = (by_objection (search rules) c.in-Err.objection (handed.1 ∙ c.from.ensures) objects said.cleared, handed.0, said.answer.1);
+      exact = λ asked. subst (λ (k : ℕ). OptimalFor f.ops (k - 1) row columns → ⊥) c.count.ensures said.exact;
     }
 
 pub returns-in-Ok : goal.returns-in-Ok
 returns-in-Ok g c =
     let f = g.F.Field in
-    let numbers = c.of.ensures in
+    let numbers = c.of-in-Ok.ensures in
     let generators = c.args.generators.now in
     let offered = c.args.offered.now in
     let frame = c.offer_row.new.frame in
     let n = c.args.self.n in
     let said = c.in-Ok.ensures in
-    let row = generator_in f.ops f.member generators in
-    let columns = column_in f.ops f.member offered in
-    let counted = subst (λ (k : ℕ). HoldsOffer f.ops f.member k generators offered frame c.in-Ok.numbers.degree c.in-Ok.numbers.divisor c.in-Ok.numbers.columns) c.count.ensures said.answer in
-    let degree = subst (λ (d : ℕ). HoldsOffer f.ops f.member n generators offered frame d c.in-Ok.numbers.divisor c.in-Ok.numbers.columns) (sym numbers.1.0) counted in
-    let holds = subst₂ (λ (e p : ℕ). HoldsOffer f.ops f.member n generators offered frame c.of.result.degree e p) (sym numbers.1.1.0) (sym numbers.1.1.1) degree in
+    let found = c.in-Ok.numbers in
+    let counted = subst (λ (k : ℕ). HoldsOffer f.ops f.member k generators offered frame found.degree found.divisor found.columns) c.count.ensures said.answer in
+    let degree = subst (λ (d : ℕ). HoldsOffer f.ops f.member n generators offered frame d found.divisor found.columns) (sym numbers.1.0) counted in
+    let holds = subst₂ (λ (e p : ℕ). HoldsOffer f.ops f.member n generators offered frame c.of-in-Ok.result.degree e p) (sym numbers.1.1.0) (sym numbers.1.1.1) degree in
     record {
       granted =
           record {
             asked = search rules;
-            same_count = numbers.0 ∙ c.count-in-Ok.ensures;
+            same_count = numbers.0;
             holds = holds;
             stands = record {
               optimal = holds.optimal;
@@ -50,5 +49,5 @@ returns-in-Ok g c =
             cleared = said.cleared;
           };
       refused = tt;
-      exact = λ asked. subst (λ (k : ℕ). OptimalFor f.ops (k - 1) row columns) c.count.ensures said.exact;
+      exact = λ asked. subst (λ (k : ℕ). OptimalFor f.ops (k - 1) (generator_in f.ops f.member generators) (column_in f.ops f.member offered)) c.count.ensures said.exact;
     }

@@ -1,0 +1,59 @@
+use Rattle.std.proofs.Common.{◌≡◌, ◌<◌, length, subst, add-one, arith}
+use mathlib.Core.Logic.{∥∥₁_map}
+use Rattle.tables.specs.Places.{at}
+use Rattle.elimination.specs.Steps.{column_at, entry_at, IsPivot}
+use Rattle.elimination.proofs.Taking.{taken_sum, taken_pivotal, taken_steps, taken_reduces}
+use Rattle.elimination.proofs.Valid.{rank_few, the_steps}
+use Rattle.elimination.proofs.Steps.take_column.Goals as goal
+
+pub returns-in_default-clause-takes : goal.returns-in_default-clause-takes
+returns-in_default-clause-takes g c =
+    let f = g.F.Field in
+    let met = g.met.F.Field in
+    let s = c.args.self.now in
+    let e = column_at f.ops f.member s.rows s.factors.now in
+    let steps = the_steps f.ops s.rows s.rank e (entry_at s.pivots.now) s.valid met.laws met.invertible in
+    record {
+      valid = steps;
+      bound = rank_few f.ops s.rows s.rank e (entry_at s.pivots.now) s.valid;
+      judged = taken_sum f.ops f.member met.laws s.rows s.rank s.factors.now s.pivots.now c.args.column.now c.reduce.new.column c.requires c.reduce.ensures steps c.in_default.ensures;
+      reduces = λ V turns. turns;
+    }
+
+pub returns-clause-takes : goal.returns-clause-takes
+returns-clause-takes g c =
+    let f = g.F.Field in
+    let met = g.met.F.Field in
+    let s = c.args.self.now in
+    let e = column_at f.ops f.member s.rows s.factors.now in
+    let pivot = c.in-Some.pivot in
+    let now = c.reduce.new.column in
+    let width : length now ≡ s.rows = omega (arith, c.requires, c.reduce.auto.column) in
+    let q : IsPivot f.ops s.rows s.rank (at f.ops f.member now) pivot.row (f.member pivot.inverse) =
+    subst (λ n. IsPivot f.ops n s.rank (at f.ops f.member now) pivot.row (f.member pivot.inverse)) width c.in-Some.ensures in
+    let less : s.rank < length s.pivots.now = omega (arith, q.low, q.within, s.room) in
+    let r = c.record_step in
+    rw (r.ensures.kept.1.0, r.ensures.kept.1.1) record {
+      valid = taken_steps f.ops f.member met.laws s.rows s.rank s.factors.now s.pivots.now c.args.column.now now c.requires c.reduce.ensures pivot.row pivot.inverse q
+          r.new.self.factors.now r.ensures.here r.ensures.others less (the_steps f.ops s.rows s.rank e (entry_at s.pivots.now) s.valid met.laws met.invertible);
+      bound = omega (arith, q.low, q.within);
+      judged = taken_pivotal f.ops f.member met.laws s.rows s.rank s.factors.now s.pivots.now c.args.column.now now c.requires c.reduce.ensures pivot.row pivot.inverse q;
+      reduces = taken_reduces f.ops f.member met.laws s.rows s.rank s.factors.now s.pivots.now c.args.column.now now c.requires c.reduce.ensures pivot.row pivot.inverse q
+          r.new.self.factors.now r.ensures.here r.ensures.others less;
+    }
+
+pub invariant_of-self-clause-valid : goal.invariant_of-self-clause-valid
+invariant_of-self-clause-valid g c =
+    let f = g.F.Field in
+    let met = g.met.F.Field in
+    let s = c.args.self.now in
+    let pivot = c.in-Some.pivot in
+    let now = c.reduce.new.column in
+    let width : length now ≡ s.rows = omega (arith, c.requires, c.reduce.auto.column) in
+    let q : IsPivot f.ops s.rows s.rank (at f.ops f.member now) pivot.row (f.member pivot.inverse) =
+    subst (λ n. IsPivot f.ops n s.rank (at f.ops f.member now) pivot.row (f.member pivot.inverse)) width c.in-Some.ensures in
+    let less : s.rank < length s.pivots.now = omega (arith, q.low, q.within, s.room) in
+    let r = c.record_step in
+    rw (r.ensures.kept.0, r.ensures.kept.1.0, r.ensures.kept.1.1, add-one)
+    (∥∥₁_map s.valid (taken_steps f.ops f.member met.laws s.rows s.rank s.factors.now s.pivots.now c.args.column.now now c.requires c.reduce.ensures pivot.row pivot.inverse q
+    r.new.self.factors.now r.ensures.here r.ensures.others less))

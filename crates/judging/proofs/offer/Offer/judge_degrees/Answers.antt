@@ -1,0 +1,77 @@
+use Rattle.std.proofs.Common.{ℕ, suc, ◌-◌, ◌<◌, refl, arith}
+use Rattle.algebra.proofs.Fields.{field_of}
+use Rattle.elimination.specs.Steps.{entry_at}
+use Rattle.frames.specs.Rows.{Highest}
+use Rattle.framing.specs.Framing.{column_in}
+use Rattle.judging.specs.Columns.{check_degree}
+use Rattle.judging.specs.Questions.{not_in_degree, first_inside}
+use Rattle.judging.proofs.LeadingTest as Test
+use Rattle.judging.proofs.Sent.{none_found, some_found}
+use Rattle.judging.proofs.offer.Offer.judge_degrees.Goals as goal
+
+pub returns-then-not-in_order : goal.returns-then-not-in_order
+returns-then-not-in_order g c =
+    let f = g.F.Field in
+    let field = field_of g.met.F.Field.laws g.met.F.Field.numbered g.met.F.Field.invertible in
+    let n = c.args.self.now.n in
+    let same = c.of-graded.ensures.same in
+    let degrees = rw (same.0, same.1) at c.of-graded.ensures.degrees in
+    not_in_degree refl (Test.unordered f.ops field n (n - 1) (column_in f.ops f.member c.args.self.now.offered.now) (check_degree c.of-graded.result.degrees) (λ j h. degrees (suc j) (omega arith)) c.args.d (rw same.0 at c.if-not-in_order.ensures))
+
+pub returns-then-is_none : goal.returns-then-is_none
+returns-then-is_none g c =
+    let f = g.F.Field in
+    let field = field_of g.met.F.Field.laws g.met.F.Field.numbered g.met.F.Field.invertible in
+    let n = c.args.self.now.n in
+    let same = c.of-graded.ensures.same in
+    let degrees = rw (same.0, same.1) at c.of-graded.ensures.degrees in
+    let dependent = rw (same.0, same.1) at (none_found _ _ c.eliminate.result c.if-is_none.ensures c.eliminate.ensures.answer) in
+    not_in_degree refl (Test.dependent f.ops field n (n - 1) (column_in f.ops f.member c.args.self.now.offered.now) (check_degree c.of-graded.result.degrees) (λ j h. degrees (suc j) (omega arith)) c.args.d dependent)
+
+pub outside-requires-clause-independent : goal.outside-requires-clause-independent
+outside-requires-clause-independent g c =
+    let f = g.F.Field in
+    let field = field_of g.met.F.Field.laws g.met.F.Field.numbered g.met.F.Field.invertible in
+    let graded = c.of-graded.result in
+    let count = c.count_no_higher-count in
+    Test.first_independent f.ops field graded.n (graded.n - 1) (column_in f.ops f.member graded.offered.now) (check_degree graded.degrees) (λ j h. c.of-graded.ensures.degrees (suc j) (omega arith)) count.result count.ensures.within
+    (some_found _ _ c.eliminate.result c.if-is_none.ensures c.eliminate.ensures.answer)
+
+pub returns-then-not-outside : goal.returns-then-not-outside
+returns-then-not-outside g c =
+    let f = g.F.Field in
+    let field = field_of g.met.F.Field.laws g.met.F.Field.numbered g.met.F.Field.invertible in
+    let n = c.args.self.now.n in
+    let columns = column_in f.ops f.member c.args.self.now.offered.now in
+    let δ = check_degree c.of-graded.result.degrees in
+    let e = entry_at c.of-graded.result.degrees 0 in
+    let same = c.of-graded.ensures.same in
+    let degrees = rw (same.0, same.1) at c.of-graded.ensures.degrees in
+    let found : (j : ℕ) → j < n - 1 → Highest f.ops n (columns (suc j)) (δ j) = λ j h. degrees (suc j) (omega arith) in
+    let order = rw same.0 at c.if-not-in_order.ensures in
+    let independent = rw (same.0, same.1) at (some_found _ _ c.eliminate.result c.if-is_none.ensures c.eliminate.ensures.answer) in
+    let few = rw same.0 at c.count_no_higher-count.ensures in
+    let inside = rw (same.0, same.1) at c.if-not-outside.ensures in
+    let first = Test.found_nonzero f.ops field n (columns 0) e (degrees 0 (omega arith)) c.requires in
+    first_inside refl (Test.in_degree f.ops field n (n - 1) columns δ found c.args.d order independent)
+    (λ out. inside (λ s. Test.outside_no f.ops field n (n - 1) columns δ found e c.count_no_higher-count.result first few order.0 independent s out))
+
+pub returns : goal.returns
+returns g c =
+    let f = g.F.Field in
+    let field = field_of g.met.F.Field.laws g.met.F.Field.numbered g.met.F.Field.invertible in
+    let n = c.args.self.now.n in
+    let columns = column_in f.ops f.member c.args.self.now.offered.now in
+    let δ = check_degree c.of-graded.result.degrees in
+    let e = entry_at c.of-graded.result.degrees 0 in
+    let same = c.of-graded.ensures.same in
+    let degrees = rw (same.0, same.1) at c.of-graded.ensures.degrees in
+    let found : (j : ℕ) → j < n - 1 → Highest f.ops n (columns (suc j)) (δ j) = λ j h. degrees (suc j) (omega arith) in
+    let order = rw same.0 at c.if-not-in_order.ensures in
+    let independent = rw (same.0, same.1) at (some_found _ _ c.eliminate.result c.if-is_none.ensures c.eliminate.ensures.answer) in
+    let few = rw same.0 at c.count_no_higher-count.ensures in
+    let outside = rw (same.0, same.1) at c.if-not-outside.ensures in
+    let first = Test.found_nonzero f.ops field n (columns 0) e (degrees 0 (omega arith)) c.requires in (
+      Test.in_degree f.ops field n (n - 1) columns δ found c.args.d order independent,
+      Test.outside_yes f.ops field n (n - 1) columns δ found e c.count_no_higher-count.result first few order.0 outside,
+    )

@@ -1,0 +1,31 @@
+// An offer: columns for generators, each in its table.
+ghost use Rattle.std.specs.List.{between};
+ghost use Rattle.std.specs.Prelude.{◌≡◌, ◌+◌, ◌*◌, ◌<◌, ◌≤◌, length};
+ghost use Rattle.tables.specs.declared.sizes.TheConstants.{GENERATORS, COLUMNS};
+
+use fields::field::Field;
+use tables::sizes::GENERATORS;
+
+// The first n columns of an offered table, for the first n generators.
+#[derive(Drop)]
+pub(crate) struct Offer<'a, F: Field> {
+    pub(crate) n: usize,
+    pub(crate) generators: &'a [F],
+    pub(crate) offered: &'a [F],
+    ghost low: { 2 ≤ n },
+    ghost high: { n ≤ 8 },
+    ghost rows: { length generators.now ≡ GENERATORS },
+    ghost columns: { length offered.now ≡ COLUMNS },
+}
+
+impl<'a, F: Field> Offer<'a, F> {
+    // The places of column j.
+    pub(crate) fn column(&self, j: usize) -> &[F]
+        requires { j < 8 }
+        ensures value { result.now ≡ between (GENERATORS * j) (GENERATORS * j + GENERATORS) self.now.offered.now }
+        ensures len { length result.now ≡ GENERATORS }
+    {
+        let start = GENERATORS * j;
+        &self.offered[start..start + GENERATORS]
+    }
+}

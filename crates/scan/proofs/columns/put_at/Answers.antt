@@ -1,6 +1,0 @@
-use native.Mathlib.Omega.{arith}
-use Rattle.scan.proofs.Cells.{cell_room}
-use Rattle.scan.proofs.columns.put_at.Goals as goal
-
-pub put-requires : goal.put-requires
-put-requires g c = omega (arith, cell_room c.args.n c.args.j c.args.q c.requires.sized.0 c.requires.sized.1.0 c.requires.sized.1.1 c.requires.room.0)
