@@ -4,7 +4,7 @@ use Rattle.std.proofs.lemmas.List.{length-take, length-append, length-drop, drop
 use Rattle.algebra.specs.Rings.{RingOps}
 use Rattle.framing.specs.Framing.{column_in}
 use Rattle.tables.specs.Places.{at}
-use Rattle.link.proofs.Places.{part_is}
+use Rattle.tables.proofs.Slices.{part_is}
 
 module _ {F R : Type 0} (o : RingOps R) (member : F → R) (frame : List F) (n j : ℕ) where
   -- the components of column j from component i on
@@ -30,11 +30,11 @@ module _ {F R : Type 0} (o : RingOps R) (member : F → R) (frame : List F) (n j
       more,
       sym (drop_at component rest 17 wide) ∙ ap (drop 17) (sym is) ∙ drop-drop 17 (17 * i) (take (17 * n) (drop (136 * j) frame))
           ∙ ap (λ k. drop k (take (17 * n) (drop (136 * j) frame))) (let e : 17 * i + 17 ≡ 17 * (i + 1) = omega arith in e),
-      part_is o member frame (136 * j + 17 * i) 17 component
+      ap (at o member)
           (sym (take_at component rest 17 wide) ∙ ap (take 17) (sym is ∙ ap (λ k. drop (17 * i) (take k (drop (136 * j) frame))) (let e : 17 * n ≡ 17 * i + (17 * n - 17 * i) = omega (arith, more) in e) ∙ drop-take (17 * i) (17 * n - 17 * i) (drop (136 * j) frame))
           ∙ take-take 17 (17 * n - 17 * i) (drop (17 * i) (drop (136 * j) frame)) (omega (arith, more))
           ∙ ap (take 17) (drop-drop (17 * i) (136 * j) frame))
-          wide,
+          ∙ part_is o member frame (136 * j + 17 * i) 17,
     )
       where
         more : i < n

@@ -8,7 +8,7 @@ use Rattle.algebra.specs.Series.{series}
 use Rattle.tables.specs.Places.{at}
 use Rattle.tables.proofs.Places.{at_past}
 use Rattle.link.specs.Blocks.{stream}
-use Rattle.link.proofs.Places.{at_drop, at_take}
+use Rattle.tables.proofs.Slices.{at_drop, at_take}
 use Rattle.link.proofs.Streams.{place_within, stream_past}
 use Rattle.link.proofs.Terms.{terms, terms_none, terms_more, terms_all}
 

@@ -1,7 +1,6 @@
 // The calls on the link. Each lends the framed design and its tables.
 ghost use Rattle.std.specs.Prelude.{◌≡◌, ℕ, ◌+◌, ◌-◌, ◌*◌, ◌<◌, ◌≤◌, length, IfOk, MatchResult, OnOk};
 ghost use Rattle.algebra.specs.Link.{Clean};
-ghost use Rattle.algebra.specs.Rings.{IsField};
 ghost use Rattle.algebra.specs.Series.{series};
 ghost use Rattle.fields.specs.Questions.{first_no};
 ghost use Rattle.frames.specs.Rows.{generator_in};
@@ -21,13 +20,6 @@ use tables::sizes::{FRAME, GENERATORS, WIDTH};
 
 // The longest message.
 pub const SYMBOLS: usize = 4096;
-
-// The members are a field, as the contract of an inverse says.
-fn is_field<F: Field>()
-    ensures { IsField F.ops }
-{
-    let _ = F::one().inverse();
-}
 
 // Asks the questions of a call: of its table's length and exact length, the divisor, and the lengths of message and block.
 fn ask(
@@ -109,7 +101,6 @@ pub fn invert<F: Field>(
     ensures changes { OnOk result (OneSymbolChangesFew F.ops F.member framed.now.n frame.now block.now message.new) }
 {
     ask(framed, FRAME, frame.len(), message.len(), block.len())?;
-    is_field::<F>();
     let streams = Streams {
         symbols: block,
         n: framed.generators(),
@@ -132,7 +123,6 @@ pub fn check<F: Field>(framed: &Framed, frame: &[F], block: &[F]) -> Result<bool
     let times = block.len() / n;
     let symbols = times.saturating_sub(framed.degree());
     ask(framed, FRAME, frame.len(), symbols, block.len())?;
-    is_field::<F>();
     let streams = Streams {
         symbols: block,
         n,

@@ -1,6 +1,7 @@
 use Rattle.std.proofs.Common.{◌∙◌, arith, below_more}
 use Rattle.framing.specs.Framing.{column_in}
 use Rattle.tables.proofs.Places.{at_set_same, at_set_other}
+use Rattle.algebra.proofs.Fields.{field_of}
 use Rattle.link.specs.Blocks.{Inverted}
 use Rattle.link.proofs.Guarantees.{brings_home, one_symbol_changes_few}
 use Rattle.link.proofs.Streams.{dot_streams}
@@ -26,6 +27,6 @@ returns g c =
     record {
       answer = c.in_ok-ask.ensures.answer;
       written = is;
-      home = brings_home f.ops f.member c.is_field.ensures framed.n framed.low frame framed.degree block c.loop-k.message is;
-      changes = one_symbol_changes_few f.ops f.member c.is_field.ensures framed.n framed.low frame block c.loop-k.message is;
+      home = brings_home f.ops f.member (field_of g.met.F.Field.laws g.met.F.Field.numbered g.met.F.Field.invertible) framed.n framed.low frame framed.degree block c.loop-k.message is;
+      changes = one_symbol_changes_few f.ops f.member (field_of g.met.F.Field.laws g.met.F.Field.numbered g.met.F.Field.invertible) framed.n framed.low frame block c.loop-k.message is;
     }
