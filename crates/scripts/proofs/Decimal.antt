@@ -1,17 +1,7 @@
 -- Digits, and a number that stops at the largest of 32 bits.
-use Rattle.std.proofs.Common.{◌≡◌, ℕ, zero, suc, ◌+◌, ◌-◌, ◌*◌, ◌^◌, ◌<◌, ◌≤◌, min, List, [], ◌∷◌, length, get_or, arith}
-use Rattle.std.proofs.lemmas.Bool.Decides.{nat_tests}
+use Rattle.std.proofs.Common.{◌≡◌, ℕ, zero, suc, ◌+◌, ◌-◌, ◌*◌, ◌^◌, ◌<◌, min, List, [], ◌∷◌, length, get_or, arith}
 use Rattle.std.specs.Str.Parse.{AllDigits}
 use Rattle.std.specs.Char.{digit_value as digit_value_lem}
-
-pub digit_value : (b : ℕ) → 48 ≤ b → b ≤ 57 → digit_value_lem b ≡ b - 48
-digit_value b l h = grind (arith, nat_tests)
-
-pub low_no_digit : (b : ℕ) → b < 48 → digit_value_lem b < 10 → ⊥
-low_no_digit b l h = grind (arith, nat_tests)
-
-pub high_no_digit : (b : ℕ) → 57 < b → digit_value_lem b < 10 → ⊥
-high_no_digit b l h = grind (arith, nat_tests)
 
 pub digit_at : (w : List ℕ) (k : ℕ) → k < length w → AllDigits 10 w → digit_value_lem (get_or w k 0) < 10
 digit_at [] k h d = absurd (omega arith)

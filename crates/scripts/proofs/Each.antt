@@ -22,9 +22,6 @@ module _ {X Y : Type 0} (R : X → Y → Type 0) where
     pub split : front ++ left ≡ whole
     pub each : Each R front ys
 
-  pub sofar_none : (whole : List X) → Sofar whole whole []
-  sofar_none whole = record { front = []; split = refl; each = tt }
-
   pub sofar_more : (whole left : List X) (ys : List Y) (x : X) (rest : List X) (y : Y) → Sofar whole left ys → left ≡ x ∷ rest → R x y → Sofar whole rest (ys ++ y ∷ [])
   sofar_more whole left ys x rest y s e r = record {
     front = s.front ++ x ∷ [];
