@@ -127,7 +127,7 @@ fn run_link<F: Field + Clone>(
 }
 
 // Frames and blocks.
-pub fn run_designs<F: Field + Clone>(
+pub(crate) fn run_designs<F: Field + Clone>(
     bench: &Bench<'_>,
     heap: Global,
     name: &str,

@@ -23,7 +23,7 @@ pub fn remainder(polynomial: u64) -> u64 {
 }
 
 // The code of a product of nibbles.
-pub fn nibble_product(a: u32, b: u32) -> u64 {
+pub(crate) fn nibble_product(a: u32, b: u32) -> u64 {
     remainder(carryless(u64::from(a), u64::from(b)))
 }
 
@@ -41,7 +41,7 @@ pub fn byte_product(a: u32, b: u32) -> u64 {
 }
 
 // The code of a product of tone pairs, which multiply as complex numbers with residues modulo 31.
-pub fn tone_pair_product(a: u32, b: u32) -> u64 {
+pub(crate) fn tone_pair_product(a: u32, b: u32) -> u64 {
     let (a, b) = (u64::from(a), u64::from(b));
     let real = (a % 31 * (b % 31) + (31 - a / 31 % 31) * (b / 31)) % 31;
     let imaginary = (a % 31 * (b / 31) + a / 31 * (b % 31)) % 31;

@@ -27,7 +27,7 @@ fn codes<F: Field>(coefficients: &[F]) -> Polynomial {
 }
 
 // Writes a polynomial over coefficients.
-pub fn write<F: Field>(coefficients: &mut [F], f: Polynomial) {
+pub(crate) fn write<F: Field>(coefficients: &mut [F], f: Polynomial) {
     for (x, code) in coefficients.iter_mut().zip(f.iter()) {
         *x = element(*code);
     }
@@ -43,7 +43,7 @@ pub struct Row<F: Field> {
 
 impl<F: Field + Clone> Row<F> {
     // Generators that are zero, and a work table full of one element.
-    pub fn zeros(heap: Global, n: usize, rest: F) -> Result<Row<F>, AllocError> {
+    pub(crate) fn zeros(heap: Global, n: usize, rest: F) -> Result<Row<F>, AllocError> {
         Ok(Row {
             n,
             generators: vec![in heap; F::zero(); GENERATORS]?,
@@ -64,7 +64,7 @@ impl<F: Field> Row<F> {
     }
 
     // What stands at the divisor's place.
-    pub fn divisor(&self) -> Polynomial {
+    pub(crate) fn divisor(&self) -> Polynomial {
         codes(self.work.get(DIVISOR..ROW).unwrap_or(&[]))
     }
 

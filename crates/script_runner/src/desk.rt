@@ -26,12 +26,12 @@ impl<F: Field> Desk<F> {
     }
 
     // The design that stands.
-    pub fn design(&self) -> Result<&Design, Reason> {
+    pub(crate) fn design(&self) -> Result<&Design, Reason> {
         self.design.as_ref().ok_or(Reason::NoDesign)
     }
 
     // The same, where it is a draft.
-    pub fn draft(&self) -> Result<&Draft, Reason> {
+    pub(crate) fn draft(&self) -> Result<&Draft, Reason> {
         match self.design()? {
             Design::Draft(draft) => Ok(draft),
             Design::Framed(_) => Err(Reason::Framed),
@@ -39,7 +39,7 @@ impl<F: Field> Desk<F> {
     }
 
     // The same, where it is framed.
-    pub fn framed(&self) -> Result<&Framed, Reason> {
+    pub(crate) fn framed(&self) -> Result<&Framed, Reason> {
         match self.design()? {
             Design::Draft(_) => Err(Reason::Draft),
             Design::Framed(framed) => Ok(framed),

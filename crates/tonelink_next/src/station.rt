@@ -26,7 +26,7 @@ pub struct Answered {
 
 impl Station {
     // A new design of 2 generators.
-    pub fn begin(heap: Global) -> anyhow::Result<Station> {
+    pub(crate) fn begin(heap: Global) -> anyhow::Result<Station> {
         let mut generators = vec![in heap; Tone::T0; GENERATORS]?;
         let frame = vec![in heap; Tone::T0; FRAME]?;
         let Ok(draft) = Draft::begin(2, &mut generators) else {
@@ -40,7 +40,7 @@ impl Station {
     }
 
     // Performs requests and prints each call with its answer.
-    pub fn run<C: fmt::Display>(
+    pub(crate) fn run<C: fmt::Display>(
         self,
         rt: &HostRuntime,
         calls: &[C],

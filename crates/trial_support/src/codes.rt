@@ -36,21 +36,21 @@ pub fn top_of(list: &[u16]) -> Option<usize>
 }
 
 // Adds x times another list to a list, from a place on; what would pass its end is dropped.
-pub fn add_shifted<F: Field>(list: &mut [u16], from: usize, x: F, other: &[u16]) {
+pub(crate) fn add_shifted<F: Field>(list: &mut [u16], from: usize, x: F, other: &[u16]) {
     for (sum, code) in list.iter_mut().skip(from).zip(other) {
         *sum = sum_product(*sum, x, *code);
     }
 }
 
 // Adds the product of two lists to a list; what would pass its end is dropped.
-pub fn add_product<F: Field>(list: &mut [u16], left: &[u16], right: &[u16]) {
+pub(crate) fn add_product<F: Field>(list: &mut [u16], left: &[u16], right: &[u16]) {
     for (k, code) in left.iter().enumerate() {
         add_shifted(list, k, member_of::<F>(*code), right);
     }
 }
 
 // Multiplies a list by x.
-pub fn scale<F: Field>(list: &mut [u16], x: F) {
+pub(crate) fn scale<F: Field>(list: &mut [u16], x: F) {
     for code in list {
         *code = member_of::<F>(*code).multiply(x).code();
     }

@@ -89,7 +89,7 @@ impl Basis {
 
     // Makes each vector monic, and puts them in the order of a frame: the one whose product is not zero, then the others by their
     // leading places.
-    pub fn put_in_order<F: Field>(&mut self) {
+    pub(crate) fn put_in_order<F: Field>(&mut self) {
         for vector in self.vectors.iter_mut() {
             vector.make_monic::<F>();
         }

@@ -18,7 +18,7 @@ pub struct Vector {
 }
 
 // The component of a place.
-pub fn component_of(place: usize) -> usize {
+pub(crate) fn component_of(place: usize) -> usize {
     place % WIDTH
 }
 
@@ -38,7 +38,7 @@ impl Vector {
     }
 
     // Unit vector i beside its product.
-    pub fn unit(i: usize, product: &[u16]) -> Vector {
+    pub(crate) fn unit(i: usize, product: &[u16]) -> Vector {
         let mut unit = Vector::zero();
         if let Some(cell) = unit.cells.get_mut(i) {
             *cell = 1;
@@ -67,7 +67,7 @@ impl Vector {
     }
 
     // Whether the product is not zero.
-    pub fn has_product(&self) -> bool {
+    pub(crate) fn has_product(&self) -> bool {
         self.leading
             .is_some_and(|leading| component_of(leading) == GENERATORS)
     }
@@ -94,14 +94,14 @@ impl Vector {
     }
 
     // Writes the components as a column.
-    pub fn write_column(&self, column: &mut [u16]) {
+    pub(crate) fn write_column(&self, column: &mut [u16]) {
         for (i, part) in column.chunks_mut(POWERS).enumerate() {
             copy_component(part, &self.cells, i);
         }
     }
 
     // Writes the product, less the powers that raise it.
-    pub fn write_product(&self, part: &mut [u16]) {
+    pub(crate) fn write_product(&self, part: &mut [u16]) {
         copy_component(part, &self.cells[WIDTH * POWERS..], GENERATORS);
     }
 }

@@ -26,7 +26,7 @@ pub struct Sending<'a, F: Field + Drop> {
 
 impl<'a, F: Field + Clone + Drop> Sending<'a, F> {
     // A message of at most 4 symbols, and room for its block.
-    pub fn draw(
+    pub(crate) fn draw(
         heap: Global,
         draws: &mut Draws,
         row: &'a Row,
@@ -52,7 +52,7 @@ impl<'a, F: Field + Clone + Drop> Sending<'a, F> {
 
 impl<F: Field + Drop> Sending<'_, F> {
     // Whether the message's block is the one of the definition, is clean, and brings the message home.
-    pub fn agrees(&mut self) -> bool {
+    pub(crate) fn agrees(&mut self) -> bool {
         let encoded = encode(
             self.framed,
             self.tables.generators.as_slice(),
@@ -136,7 +136,7 @@ impl<F: Field + Drop> Sending<'_, F> {
 
     // Changes one symbol after the other: to every other member in a short block, to three in a long one. By place, since the block
     // changes meanwhile.
-    pub fn change_symbols(&mut self, draws: &mut Draws) -> Tally {
+    pub(crate) fn change_symbols(&mut self, draws: &mut Draws) -> Tally {
         let mut tally = Tally::default();
         let length = self.block.len();
         for place in 0..length {

@@ -13,7 +13,7 @@ use trial_support::solver::solve;
 const TRIED: usize = GENERATORS + 1;
 
 // Whether a frame is right by all routes.
-pub fn frame_agrees<F: Field>(row: &Row, framed: &Framed, frame: &[F]) -> bool {
+pub(crate) fn frame_agrees<F: Field>(row: &Row, framed: &Framed, frame: &[F]) -> bool {
     let bounds = bound::<F>(row);
     holds(frame, &solve::<F>(row))
         && numbers_agree(row, framed, &bounds)
@@ -43,7 +43,7 @@ fn degrees_agree<F: Field>(frame: &[F], bounds: &Bounds) -> bool {
 }
 
 // Whether a frame table ends with the divisor.
-pub fn holds_divisor<F: Field>(frame: &[F], bounds: &Bounds) -> bool {
+pub(crate) fn holds_divisor<F: Field>(frame: &[F], bounds: &Bounds) -> bool {
     frame
         .get(COLUMNS..)
         .is_some_and(|divisor| holds(divisor, &bounds.divisor[..POWERS]))

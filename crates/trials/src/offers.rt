@@ -84,7 +84,7 @@ impl<'a> Offers<'a> {
 }
 
 // Offers the second solver's frame, and frames that come of it by changes, for a row that is not all zero.
-pub fn try_offers<'a, F: Field + Clone + Drop>(
+pub(crate) fn try_offers<'a, F: Field + Clone + Drop>(
     heap: Global,
     draws: &mut Draws,
     row: &'a Row,

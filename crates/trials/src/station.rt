@@ -36,7 +36,7 @@ impl<F: Field + Drop> Tables<F> {
     }
 
     // Enters a row and frames it; absent where a call refuses.
-    pub fn frame(&mut self, row: &Row) -> Option<Framed> {
+    pub(crate) fn frame(&mut self, row: &Row) -> Option<Framed> {
         let draft = self.enter(row).ok()?;
         let framed = draft.frame(
             self.generators.as_slice(),
