@@ -33,6 +33,7 @@ impl<'a, F: Field> Streams<'a, F> {
         let last = t.min(self.times - 1);
         let above = &polynomial[polynomial.len().min(t - last)..];
         let coefficients = &above[..above.len().min(last + 1)];
+        // The place is computed: a `zip` with the times backwards, or with `rchunks`, needs up to a tenth more instructions.
         let symbols = self.symbols;
         let mut sum = F::zero();
         for (k, coefficient) in coefficients.iter().enumerate() {
