@@ -15,6 +15,7 @@ pub fn pack_degrees<F: Field>(n: usize, frame: &[F], j: usize) -> u64
     ensures bound { result < 256 ^ (n - j) }
 {
     let mut packed = 0;
+    // By number: a column begins at its own place, and the highest goes first.
     for k in (j..n).rev() {
         packed = row_degree(n, &frame[GENERATORS * k..]) as u64 + 256 * packed;
     }

@@ -38,6 +38,7 @@ impl<'a, F: Field> Graded<'a, F> {
         let mut steps = Steps::new(self.n, factors, pivots);
         let mut cells = [F::zero(); 8];
         let column = &mut cells[..self.n];
+        // By number: a column stands at its own place, and so does its degree.
         for j in 0..count {
             self.write_leading(j + 1, column);
             if !steps.take_column(column) {

@@ -46,6 +46,7 @@ pub fn reduce<F: Field>(dividend: &mut [F], divisor: &[F], e: usize)
     ensures { LeavesRemainder F.ops e (at F.ops F.member dividend.old) (at F.ops F.member divisor.now) (at F.ops F.member dividend.new) }
 {
     let inverse = inverse_at(divisor, e);
+    // k is the power that is taken away, from the highest down.
     for k in (e..dividend.len()).rev() {
         cancel(dividend, k - e, divisor, e, inverse);
     }
@@ -60,6 +61,7 @@ fn divide<F: Field>(dividend: &mut [F], divisor: &[F], e: usize, quotient: &mut 
     ensures small { Below F.ops e (at F.ops F.member dividend.new) }
 {
     let inverse = inverse_at(divisor, e);
+    // k is the power that is taken away, from the highest down.
     for k in (e..dividend.len()).rev() {
         quotient[k - e] = cancel(dividend, k - e, divisor, e, inverse);
     }

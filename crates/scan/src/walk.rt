@@ -88,6 +88,7 @@ impl<'a, F: Field> Walk<'a, F> {
         ensures row { self.new.row ≡ self.old.row }
         ensures behind { (k : ℕ) → COLUMNS ≤ k → at F.ops F.member frame.new k ≡ at F.ops F.member frame.old k }
     {
+        // q is a place of the row, and no index.
         for q in 0..self.row.n * (self.row.d + 1) {
             self.walk_place(q, frame);
         }
