@@ -5,6 +5,7 @@ ghost use Rattle.cards.specs.declared.fault.CardFault.TheVariants.{Design, Field
 
 use design::fault::DesignFault;
 use fields::fault::{FieldFault, Layer, Refusal};
+use std::error::Error;
 use std::fmt;
 
 #[derive(Clone, Copy, PartialEq, Eq, Debug)]
@@ -116,3 +117,5 @@ impl fmt::Display for CardFault {
         }
     }
 }
+
+impl Error for CardFault {}

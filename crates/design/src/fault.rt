@@ -6,6 +6,7 @@ ghost use Rattle.design.specs.declared.fault.DesignFault.TheVariants.{Field};
 
 use fields::fault::{FieldFault, Layer, Refusal};
 use judging::objection::Objection;
+use std::error::Error;
 use std::fmt;
 
 #[derive(Clone, Copy, PartialEq, Eq, Debug)]
@@ -132,3 +133,5 @@ impl fmt::Display for DesignFault {
         }
     }
 }
+
+impl Error for DesignFault {}

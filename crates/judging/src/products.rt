@@ -49,7 +49,6 @@ impl<'a, F: Field> Offer<'a, F> {
     pub(crate) fn lowest_no_syzygy(&self) -> Option<usize>
         ensures { MatchOption result (AllSyzygies F.ops self.now.n (generator_in F.ops F.member self.now.generators.now) (column_in F.ops F.member self.now.offered.now)) (LowestNoSyzygy F.ops self.now.n (generator_in F.ops F.member self.now.generators.now) (column_in F.ops F.member self.now.offered.now)) }
     {
-        // By number, which is the answer.
         for j in 1..self.n {
             if !self.product_is(j, &[]) {
                 return Some(j);

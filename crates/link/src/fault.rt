@@ -5,6 +5,7 @@ ghost use Rattle.link.specs.declared.fault.LinkFault.TheVariants.{Design};
 
 use design::fault::DesignFault;
 use fields::fault::{Layer, Refusal};
+use std::error::Error;
 use std::fmt;
 
 #[derive(Clone, Copy, PartialEq, Eq, Debug)]
@@ -64,3 +65,5 @@ impl fmt::Display for LinkFault {
         }
     }
 }
+
+impl Error for LinkFault {}
