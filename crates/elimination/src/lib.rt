@@ -118,6 +118,7 @@ fn note_place(places: &mut [usize], rank: usize, q: usize, pivotal: bool)
 }
 
 // Reduces every column of a matrix, whose columns stand one behind the other. Answers the rank, and writes the places of the pivotal columns.
+// The tables of the steps are lent apart, since there are no steps yet.
 pub fn eliminate<F: Field>(
     rows: usize,
     columns: usize,

@@ -51,7 +51,7 @@ fn make_monic<F: Field>(divisor: &mut [F]) -> Option<usize>
     Some(e)
 }
 
-// Divides the first n generators by the divisor, of degree e, which divides them.
+// Divides the first n generators by the divisor, of degree e, which divides them. The parts of the work table are lent one by one, since only here they meet.
 fn divide_row<F: Field>(
     n: usize,
     generators: &[F],

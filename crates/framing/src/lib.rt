@@ -40,7 +40,7 @@ impl Numbers {
     }
 }
 
-// Writes the frame of the first n generators, absent where they are all zero, and leaves the work table at zero.
+// Writes the frame of the first n generators, absent where they are all zero, and leaves the work table at zero. Drafts, whose type keeps the limits of n, stand above.
 pub fn frame_row<F: Field>(
     n: usize,
     generators: &[F],

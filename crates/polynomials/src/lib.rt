@@ -28,6 +28,8 @@ pub fn multiply_into<F: Field>(target: &mut [F], left: &[F], right: &[F])
     }
 }
 
+// A divisor and its degree are two parameters: in a type the fact that joins them could only be kept cut down to a mere truth, and every proof would undo that.
+
 // Takes away the multiple of a divisor of degree e by s^power that meets the coefficient of s^(power + e), and answers its ratio.
 fn cancel<F: Field>(target: &mut [F], power: usize, divisor: &[F], e: usize, inverse: F) -> F
     requires room { power + e < length target.old }

@@ -9,7 +9,7 @@ use fields::field::Field;
 use tables::cells::put;
 use tables::sizes::{COLUMNS, FRAME, GENERATORS, WIDTH};
 
-// Writes an element at the place q of column j.
+// Writes an element at the place q of column j. A column's number is a plain number: a type would say no more than that it is below 8.
 fn put_at<F: Field>(row: &Row<'_, F>, j: usize, q: usize, value: F, frame: &mut [F])
     requires column { j < 8 }
     requires room { (q < row.now.n * 17) × (length frame.old ≡ FRAME) }

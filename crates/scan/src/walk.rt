@@ -17,7 +17,7 @@ use fields::field::Field;
 use tables::sizes::{COLUMNS, FRAME};
 
 // How far a walk came: the steps of the pivotal places, these places in order, the classes of the basic places, and how many of these there are.
-// Each list is written into the column.
+// Each list is written into the column. The frame is no part of it: it is lent to each call, whose caller learns what it holds then.
 #[derive(Drop)]
 pub struct Walk<'a, F: Field> {
     pub row: Row<'a, F>,
