@@ -1,4 +1,6 @@
 // Blocks and products by their definition: sums of products of coefficients.
+ghost use Rattle.std.specs.Prelude.{◌≡◌, ◌≤◌, ◌<◌, ◌*◌, ◌+◌, [], length, replicate, take, drop, true, IsTrue, IfSome};
+
 use crate::codes::{add_product, member_of, sum_product, top_of};
 use crate::rows::Row;
 use crate::sizes::{LENGTH, POWERS, ROW};
@@ -20,21 +22,37 @@ fn symbol<F: Field>(row: &Row, message: &[F], place: usize) -> u16 {
 }
 
 // Whether a block is the block of a message.
-pub fn is_block<F: Field>(row: &Row, message: &[F], block: &[F]) -> bool {
+pub fn is_block<F: Field>(row: &Row, message: &[F], block: &[F]) -> bool
+    ensures { block.now ≡ [] → IsTrue result }
+{
     block
         .iter()
         .enumerate()
         .all(|(place, x)| x.code() == symbol(row, message, place))
 }
 
+// The part with that number of a table cut into parts of one size; none where there is no such part.
+fn part<F: Field>(table: &[F], size: usize, i: usize) -> &[F]
+    requires { 0 < size }
+    ensures { result.now ≡ take size (drop (size * i) table.now) }
+{
+    let start = size.saturating_mul(i).min(table.len());
+    let rest = &table[start..];
+    &rest[..size.min(rest.len())]
+}
+
 // Column j of a frame table, its components one after the other; none where there is no such column.
-pub fn column<F: Field>(frame: &[F], j: usize) -> &[F] {
-    frame.chunks(ROW).nth(j).unwrap_or(&[])
+pub fn column<F: Field>(frame: &[F], j: usize) -> &[F]
+    ensures { result.now ≡ take ROW (drop (ROW * j) frame.now) }
+{
+    part(frame, ROW, j)
 }
 
 // Component i of a column; none where there is no such component.
-pub fn component<F: Field>(column: &[F], i: usize) -> &[F] {
-    column.chunks(POWERS).nth(i).unwrap_or(&[])
+pub fn component<F: Field>(column: &[F], i: usize) -> &[F]
+    ensures { result.now ≡ take POWERS (drop (POWERS * i) column.now) }
+{
+    part(column, POWERS, i)
 }
 
 // The codes of a component.
@@ -47,7 +65,9 @@ fn codes_of<F: Field>(component: &[F]) -> [u16; POWERS] {
 }
 
 // The highest power with a coefficient that is not zero in the first n components of a column, absent if there is none.
-pub fn degree_of<F: Field>(n: usize, column: &[F]) -> Option<usize> {
+pub fn degree_of<F: Field>(n: usize, column: &[F]) -> Option<usize>
+    ensures { IfSome result (λ k. k < POWERS) }
+{
     column
         .chunks(POWERS)
         .take(n)
@@ -56,7 +76,9 @@ pub fn degree_of<F: Field>(n: usize, column: &[F]) -> Option<usize> {
 }
 
 // The product of a row and a column.
-pub fn product_with<F: Field>(row: &Row, column: &[F]) -> [u16; LENGTH] {
+pub fn product_with<F: Field>(row: &Row, column: &[F]) -> [u16; LENGTH]
+    ensures { column.now ≡ [] → result ≡ replicate LENGTH 0 }
+{
     let mut product = [0; LENGTH];
     for (polynomial, component) in row.polynomials().iter().zip(column.chunks(POWERS)) {
         add_product::<F>(&mut product, &codes_of(component), polynomial);
@@ -65,7 +87,10 @@ pub fn product_with<F: Field>(row: &Row, column: &[F]) -> [u16; LENGTH] {
 }
 
 // In how many symbols two messages of one length differ.
-pub fn differences<F: Field>(left: &[F], right: &[F]) -> usize {
+pub fn differences<F: Field>(left: &[F], right: &[F]) -> usize
+    ensures left { result ≤ length left.now }
+    ensures right { result ≤ length right.now }
+{
     left.iter()
         .zip(right)
         .filter(|(x, y)| x.code() != y.code())
@@ -73,7 +98,9 @@ pub fn differences<F: Field>(left: &[F], right: &[F]) -> usize {
 }
 
 // Whether two messages of one length are the same but from one time to another.
-pub fn same_outside<F: Field>(left: &[F], right: &[F], from: usize, to: usize) -> bool {
+pub fn same_outside<F: Field>(left: &[F], right: &[F], from: usize, to: usize) -> bool
+    ensures { left.now ≡ right.now → IsTrue result }
+{
     left.iter().zip(right).enumerate().all(|(time, (x, y))| (from <= time && time <= to)
         || x.code() == y.code())
 }

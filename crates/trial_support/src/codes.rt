@@ -1,5 +1,5 @@
 // Arithmetic of members by their codes, and of lists of codes: the coefficients of a polynomial or a vector.
-ghost use Rattle.std.specs.Prelude.{◌<◌, length, IfSome};
+ghost use Rattle.std.specs.Prelude.{◌≡◌, ◌<◌, length, drop, IfSome, IfNone, All};
 
 use fields::field::Field;
 
@@ -8,9 +8,12 @@ pub fn member_of<F: Field>(code: u16) -> F {
     F::element(u32::from(code)).unwrap_or(F::zero())
 }
 
-// Writes the members of codes into a table.
-pub fn write_members<F: Field>(table: &mut [F], codes: &[u16]) {
-    for (x, code) in table.iter_mut().zip(codes) {
+// Writes the members of codes into a table; what stands past them is kept.
+pub fn write_members<F: Field>(table: &mut [F], codes: &[u16])
+    ensures { drop (length codes.now) table.new ≡ drop (length codes.now) table.old }
+{
+    let count = codes.len().min(table.len());
+    for (x, code) in table[..count].iter_mut().zip(codes) {
         *x = member_of(*code);
     }
 }
@@ -30,7 +33,8 @@ pub fn inverse<F: Field>(code: u16) -> F {
 
 // The highest place at which a list is not zero.
 pub fn top_of(list: &[u16]) -> Option<usize>
-    ensures { IfSome result (λ i. i < length list.now) }
+    ensures place { IfSome result (λ i. i < length list.now) }
+    ensures none { IfNone result (All (λ code. code ≡ 0) list.now) }
 {
     list.iter().rposition(|code| *code != 0)
 }

@@ -1,4 +1,6 @@
 // What is refused, as all routes say it.
+ghost use Rattle.std.specs.Prelude.{◌≡◌};
+
 use fields::fault::Refusal;
 
 // The number of the question that is answered no, and where. A number, since it is all that the two routes have in common.
@@ -9,7 +11,9 @@ pub struct Fault {
 }
 
 impl Fault {
-    pub fn new(number: u8, place: usize) -> Fault {
+    pub fn new(number: u8, place: usize) -> Fault
+        ensures said { (result.number ≡ number) × (result.place ≡ place) }
+    {
         Fault { number, place }
     }
 

@@ -1,5 +1,5 @@
 // Rows of generators: of many shapes, drawn at random.
-ghost use Rattle.std.specs.Prelude.{◌≤◌};
+ghost use Rattle.std.specs.Prelude.{◌≡◌, ◌≢◌, ℕ, List, ◌≤◌, Some, IsTrue, All, slice_get, take};
 
 use crate::codes::{add_product, top_of};
 use crate::draws::Draws;
@@ -43,7 +43,9 @@ impl Row {
     }
 
     // The n polynomials.
-    pub fn polynomials(&self) -> &[[u16; POWERS]] {
+    pub fn polynomials(&self) -> &[[u16; POWERS]]
+        ensures { result.now ≡ take self.now.n self.now.polynomials }
+    {
         &self.polynomials[..self.n]
     }
 
@@ -61,7 +63,9 @@ impl Row {
     }
 
     // Whether polynomial i is the only one that is not zero.
-    pub fn is_alone(&self, i: usize) -> bool {
+    pub fn is_alone(&self, i: usize) -> bool
+        ensures { IsTrue result → (j : ℕ) (p : List ℕ) → slice_get (take self.now.n self.now.polynomials) j ≡ Some p → j ≢ i → All (λ code. code ≡ 0) p }
+    {
         let mut polynomials = self.polynomials().iter().enumerate();
         polynomials.all(|(j, polynomial)| top_of(polynomial).is_some() == (i == j))
     }
