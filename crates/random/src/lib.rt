@@ -1,7 +1,7 @@
 // Numbers that look random, the same on every run, for tests and measurements.
 #![tactic(auto)]
 
-ghost use Rattle.std.specs.Prelude.{◌<◌};
+ghost use Rattle.std.specs.Prelude.{◌≡◌, ◌<◌, ◌/◌, ◌%◌, All};
 
 use fields::field::Field;
 
@@ -12,14 +12,17 @@ pub struct Random {
 }
 
 impl Random {
-    pub fn seeded(seed: u32) -> Random {
+    pub fn seeded(seed: u32) -> Random
+        ensures { result.state ≡ seed }
+    {
         Random { state: seed }
     }
 
     // The next number below a size.
     pub fn below(&mut self, size: u32) -> u32
         requires { 0 < size }
-        ensures { result < size }
+        ensures range { result < size }
+        ensures value { result ≡ self.new.state / 65536 % size }
     {
         self.state = self
             .state
@@ -29,7 +32,9 @@ impl Random {
     }
 
     // The next element.
-    pub fn element<F: Field>(&mut self) -> F {
+    pub fn element<F: Field>(&mut self) -> F
+        ensures { F.number (F.member result) ≡ self.new.state / 65536 % F.order }
+    {
         F::element(self.below(F::size())).unwrap_or(F::zero())
     }
 
