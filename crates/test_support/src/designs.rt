@@ -1,4 +1,6 @@
 // Designs by the terms of their generators, with the tables that they lend.
+ghost use Rattle.std.specs.Prelude.{◌≡◌, ◌≤◌, IfOk, vec_len, take, drop};
+
 use design::draft::Draft;
 use design::fault::DesignFault;
 use fields::field::Field;
@@ -18,7 +20,9 @@ pub struct Design<'a> {
 
 impl Design<'_> {
     // Begins a draft and enters the terms.
-    pub fn enter<F: Field>(&self, generators: &mut [F]) -> Result<Draft, DesignFault> {
+    pub fn enter<F: Field>(&self, generators: &mut [F]) -> Result<Draft, DesignFault>
+        ensures { IfOk result (λ draft. draft.n ≡ self.now.n) }
+    {
         let draft = Draft::begin(self.n, generators)?;
         for Term(i, power, code) in self.terms {
             draft.put(generators, *i, *power, *code)?;
@@ -37,7 +41,9 @@ pub struct Tables<F: Field> {
 
 impl<F: Field + Clone> Tables<F> {
     // No generators yet, and one element everywhere else.
-    pub fn full_of(heap: Global, x: F) -> Result<Tables<F>, AllocError> {
+    pub fn full_of(heap: Global, x: F) -> Result<Tables<F>, AllocError>
+        ensures { IfOk result (λ t. (vec_len t.generators ≡ 136) × (vec_len t.frame ≡ 1105) × (vec_len t.work ≡ 4521)) }
+    {
         Ok(Tables {
             generators: vec![in heap; F::zero(); GENERATORS]?,
             frame: vec![in heap; x; FRAME]?,
@@ -46,12 +52,16 @@ impl<F: Field + Clone> Tables<F> {
     }
 
     // The columns of the frame.
-    pub fn columns(&self) -> &[F] {
+    pub fn columns(&self) -> &[F]
+        ensures { 1088 ≤ vec_len self.now.frame → result.now ≡ take 1088 self.now.frame.items }
+    {
         self.frame.get(..COLUMNS).unwrap_or(&[])
     }
 
     // The divisor behind them.
-    pub fn divisor(&self) -> &[F] {
+    pub fn divisor(&self) -> &[F]
+        ensures { 1088 ≤ vec_len self.now.frame → result.now ≡ drop 1088 self.now.frame.items }
+    {
         self.frame.get(COLUMNS..).unwrap_or(&[])
     }
 }

@@ -1,4 +1,7 @@
 // Codes at places of tables.
+ghost use Rattle.std.specs.Prelude.{◌≡◌, ◌≤◌, ◌<◌, IfOk, IsTrue, All, Some, length, slice_get, min, sum_by};
+ghost use Rattle.std.specs.Option.{option_map};
+
 use fields::fault::FieldFault;
 use fields::field::Field;
 
@@ -6,19 +9,25 @@ use fields::field::Field;
 pub type Cell = (usize, u16);
 
 // The code at a place of a table, absent past its end.
-pub fn code_at<F: Field>(table: &[F], place: usize) -> Option<u16> {
+pub fn code_at<F: Field>(table: &[F], place: usize) -> Option<u16>
+    ensures { result ≡ option_map (λ x. F.number (F.member x)) (slice_get table.now place) }
+{
     table.get(place).map(|x| x.code())
 }
 
 // The sum of the codes of a table, which bounds how many of its places are not zero.
-pub fn sum_of_codes<F: Field>(table: &[F]) -> u64 {
+pub fn sum_of_codes<F: Field>(table: &[F]) -> u64
+    ensures { result ≡ min (sum_by (λ x. F.number (F.member x)) table.now) 18446744073709551615 }
+{
     table
         .iter()
         .fold(0, |sum: u64, x| sum.saturating_add(u64::from(x.code())))
 }
 
 // Whether a table has the codes at their places, and zero elsewhere.
-pub fn holds<F: Field>(table: &[F], cells: &[Cell]) -> bool {
+pub fn holds<F: Field>(table: &[F], cells: &[Cell]) -> bool
+    ensures { IsTrue result → All (λ c. option_map (λ x. F.number (F.member x)) (slice_get table.now c.0) ≡ Some c.1) cells.now }
+{
     let sum = cells.iter().fold(
         0,
         |sum: u64, (_, code)| sum.saturating_add(u64::from(*code)),
@@ -30,7 +39,9 @@ pub fn holds<F: Field>(table: &[F], cells: &[Cell]) -> bool {
 }
 
 // Writes codes at their places; whether the table has every place.
-pub fn write<F: Field>(table: &mut [F], cells: &[Cell]) -> Result<bool, FieldFault> {
+pub fn write<F: Field>(table: &mut [F], cells: &[Cell]) -> Result<bool, FieldFault>
+    ensures { IfOk result (λ whole. IsTrue whole → All (λ c. (c.0 < length table.new) × (c.1 < F.order)) cells.now) }
+{
     for (place, code) in cells {
         let Some(x) = table.get_mut(*place) else {
             return Ok(false);
