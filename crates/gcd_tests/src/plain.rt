@@ -41,6 +41,7 @@ pub fn multiply<F: Field>(f: Polynomial, g: Polynomial) -> Polynomial {
 fn remainder<F: Field>(f: Polynomial, e: usize, low: Polynomial) -> Polynomial {
     let low = low.get(..e).unwrap_or(&low);
     let mut rest = f;
+    // Each step reads a coefficient that the steps before it changed, so the powers are counted.
     for k in (low.len()..WIDTH).rev() {
         let top = negative::<F>(rest[k]);
         rest[k] = 0;
