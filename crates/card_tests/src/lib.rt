@@ -65,6 +65,7 @@ mod tests {
         assert_eq!(rt; table[20].code(), 5);
         assert_eq!(rt; table[4].code(), 0);
         assert_eq!(rt; table[135].code(), 0);
+        // Number 1 of docs/refusals.md: a table has not its exact length.
         let mut short = [Tone::T7; 135];
         let mut long = [Tone::T7; 137];
         assert_eq!(rt;
