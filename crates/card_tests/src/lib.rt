@@ -12,7 +12,7 @@ mod tests {
     use std::test::Fail;
     use tones::Tone;
 
-    // Number, layer and place of the refusal, if there is one.
+    // Number, layer and place of the refusal, which docs/refusals.md promises, if there is one.
     fn refusal(card: &[u8]) -> Option<(u8, u8, usize)> {
         let fault = read_card(card, &mut [Tone::T7; 136]).err()?;
         Some((fault.number(), fault.layer().number(), fault.place()))
@@ -65,6 +65,7 @@ mod tests {
         assert_eq!(rt; table[20].code(), 5);
         assert_eq!(rt; table[4].code(), 0);
         assert_eq!(rt; table[135].code(), 0);
+        // Number 1 of docs/refusals.md: a table has not its exact length.
         let mut short = [Tone::T7; 135];
         let mut long = [Tone::T7; 137];
         assert_eq!(rt;
@@ -77,8 +78,9 @@ mod tests {
         );
     }
 
+    // Puts the code 30 at each power of each generator.
     fn fill(draft: &Draft, table: &mut [Tone]) -> Result<(), DesignFault> {
-        (0..136).try_for_each(|k| draft.put(table, k / 17, k % 17, 30))
+        (0..8).try_for_each(|i| (0..17).try_for_each(|power| draft.put(table, i, power, 30)))
     }
 
     #[test]

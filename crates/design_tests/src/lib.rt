@@ -10,7 +10,7 @@ mod tests {
     use std::test::Fail;
     use tones::Tone;
 
-    // The number of the refusal, if there is one.
+    // The number of the refusal, which docs/refusals.md promises, if there is one.
     fn refusal<T: Drop>(r: Result<T, DesignFault>) -> Option<u8> {
         Some(r.err()?.number())
     }

@@ -186,6 +186,7 @@ mod tests {
     }
 
     // The refusal of a frame of 2 generators that are all zero, with tables of these lengths.
+    // It stands apart from its like in offer_tests, which lends one table more and compares the work table too.
     fn refused(
         rt: &(impl Abort + AllocGlobal),
         generators: usize,
@@ -207,6 +208,7 @@ mod tests {
 
     #[test]
     fn refusals(rt: HostRuntime) -> Result<(), Fail> {
+        // The last of each is the refusal's number, which docs/refusals.md promises.
         for (generators, frame, work, number) in [
             (136, 1105, 4521, 6),
             (135, 1105, 4521, 1),

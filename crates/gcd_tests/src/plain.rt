@@ -9,16 +9,21 @@ pub fn element<F: Field>(code: u32) -> F {
     F::element(code % F::size()).unwrap_or(F::zero())
 }
 
+// The code of an element.
+pub(crate) fn code<F: Field>(x: F) -> u32 {
+    u32::from(x.code())
+}
+
 fn sum<F: Field>(a: u32, b: u32) -> u32 {
-    u32::from(element::<F>(a).add(element::<F>(b)).code())
+    code(element::<F>(a).add(element::<F>(b)))
 }
 
 fn product<F: Field>(a: u32, b: u32) -> u32 {
-    u32::from(element::<F>(a).multiply(element::<F>(b)).code())
+    code(element::<F>(a).multiply(element::<F>(b)))
 }
 
 fn negative<F: Field>(a: u32) -> u32 {
-    u32::from(element::<F>(a).negate().code())
+    code(element::<F>(a).negate())
 }
 
 // Adds x times a polynomial to the coefficients from a place on, as far as they go.
@@ -41,6 +46,7 @@ pub fn multiply<F: Field>(f: Polynomial, g: Polynomial) -> Polynomial {
 fn remainder<F: Field>(f: Polynomial, e: usize, low: Polynomial) -> Polynomial {
     let low = low.get(..e).unwrap_or(&low);
     let mut rest = f;
+    // Each step reads a coefficient that the steps before it changed, so the powers are counted.
     for k in (low.len()..WIDTH).rev() {
         let top = negative::<F>(rest[k]);
         rest[k] = 0;

@@ -1,5 +1,5 @@
 // Rows of generators for the tests, and what is checked of each.
-use crate::plain::{Polynomial, divides, element, multiply, top};
+use crate::plain::{Polynomial, code, divides, element, multiply, top};
 use fields::field::Field;
 use frames::row::{DIVISOR, Degrees, ROW, divide_by_gcd};
 use random::Random;
@@ -20,8 +20,8 @@ pub fn polynomial<F: Field>(degree: usize, seed: u32) -> Polynomial {
 // The codes of coefficients, and zeros behind them.
 fn codes<F: Field>(coefficients: &[F]) -> Polynomial {
     let mut f = [0; WIDTH];
-    for (code, x) in f.iter_mut().zip(coefficients.iter()) {
-        *code = u32::from(x.code());
+    for (a, x) in f.iter_mut().zip(coefficients.iter()) {
+        *a = code(*x);
     }
     f
 }

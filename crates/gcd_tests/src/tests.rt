@@ -26,20 +26,24 @@ fn fill<F: Field>(n: usize, e: usize, seed: u32, generators: &mut [F]) {
     }
 }
 
-// Every monic polynomial of degree 1, and of degree 2 where that is asked for.
-fn trials<F: Field>(rt: &impl Abort, row: &Row<F>, quadratics: bool) {
+// Every monic polynomial of degree 1.
+fn linear_trials<F: Field>(rt: &impl Abort, row: &Row<F>) {
     for low in 0..F::size() {
         row.check_trial(rt, 1, low, 0);
-        if quadratics {
-            for next in 0..F::size() {
-                row.check_trial(rt, 2, low, next);
-            }
+    }
+}
+
+// Every monic polynomial of degree 2.
+fn quadratic_trials<F: Field>(rt: &impl Abort, row: &Row<F>) {
+    for low in 0..F::size() {
+        for next in 0..F::size() {
+            row.check_trial(rt, 2, low, next);
         }
     }
 }
 
-// From 2 to 8 generators, with factors of degree 0 to 16; then a row of zeros.
-fn rows<F: Field + Clone>(rt: &(impl Abort + AllocGlobal), quadratics: bool) -> Result<(), Fail> {
+// From 2 to 8 generators, with factors of degree 0 to 16; then a row of zeros. Monic polynomials of degree 2 are tried on the first so many rows.
+fn rows<F: Field + Clone>(rt: &(impl Abort + AllocGlobal), quadratics: usize) -> Result<(), Fail> {
     let mut row = Row::zeros(rt.alloc(), 8, F::one())?;
     for e in 0..17usize {
         let seed = 1 + e as u32;
@@ -48,7 +52,10 @@ fn rows<F: Field + Clone>(rt: &(impl Abort + AllocGlobal), quadratics: bool) -> 
         let degrees = row.divide().ok_or("every generator is zero")?;
         assert!(rt; divides::<F>(e, polynomial::<F>(e, seed), row.divisor()));
         row.check_division(rt, degrees);
-        trials(rt, &row, quadratics && e < 4);
+        linear_trials(rt, &row);
+        if e < quadratics {
+            quadratic_trials(rt, &row);
+        }
     }
     row.n = 8;
     tables::clear(&mut row.generators);
@@ -60,22 +67,22 @@ fn rows<F: Field + Clone>(rt: &(impl Abort + AllocGlobal), quadratics: bool) -> 
 
 #[test]
 fn tone_rows(rt: HostRuntime) -> Result<(), Fail> {
-    rows::<Tone>(&rt, true)
+    rows::<Tone>(&rt, 4)
 }
 
 #[test]
 fn nibble_rows(rt: HostRuntime) -> Result<(), Fail> {
-    rows::<Nibble>(&rt, true)
+    rows::<Nibble>(&rt, 4)
 }
 
 #[test]
 fn byte_rows(rt: HostRuntime) -> Result<(), Fail> {
-    rows::<Byte>(&rt, false)
+    rows::<Byte>(&rt, 0)
 }
 
 #[test]
 fn tone_pair_rows(rt: HostRuntime) -> Result<(), Fail> {
-    rows::<TonePair>(&rt, false)
+    rows::<TonePair>(&rt, 0)
 }
 
 // The row (s^2, s^2 + s) has the divisor s and the divided row (s, s + 1).

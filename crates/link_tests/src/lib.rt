@@ -58,7 +58,7 @@ mod tests {
         }
     }
 
-    // What encode answers for a message and a block of so many symbols, a refusal by its number.
+    // What encode answers for a message and a block of so many symbols, a refusal by the number that docs/refusals.md promises.
     fn encodes(
         rt: &(impl Abort + AllocGlobal),
         station: &Station<Tone>,
@@ -73,7 +73,7 @@ mod tests {
         Ok(())
     }
 
-    // What check answers for a block of so many zeros, a refusal by its number.
+    // What check answers for a block of so many zeros, a refusal by the number that docs/refusals.md promises.
     fn checks(
         rt: &(impl Abort + AllocGlobal),
         station: &Station<Tone>,
@@ -185,10 +185,10 @@ mod tests {
 
     // Sends the message of five codes.
     fn sends<F: Field + Clone>(rt: &(impl Abort + AllocGlobal), codes: &[u32]) -> Result<(), Fail> {
-        let mut message = Vec::new(rt.alloc());
-        for code in codes {
-            message.push(F::element(*code)?)?;
-        }
+        let message = codes
+            .iter()
+            .map(|code| -> Result<F, Fail> { Ok(F::element(*code)?) })
+            .try_collect(rt.alloc())?;
         carries(rt, message)
     }
 

@@ -16,7 +16,7 @@ mod tests {
     use tones::Tone;
     use towers::{Byte, TonePair};
 
-    // A granted offer has these packed column degrees and a divisor that is this power of s; a refusal has this number and place.
+    // A granted offer has these packed column degrees and a divisor that is this power of s; a refusal has this number and place, which docs/refusals.md promises.
     type Answer = Result<(u64, usize), (u8, usize)>;
 
     // Zeros in rows and columns 0 to n - 1 of an offered table.
@@ -282,6 +282,7 @@ mod tests {
     }
 
     // The refusal of an offer of tables of these lengths, all zero but for the frame and the work table.
+    // It stands apart from that of framing: an offer brings one table more, and what it leaves in the work table is compared too.
     fn refused(
         rt: &(impl Abort + AllocGlobal),
         generators: usize,
@@ -310,6 +311,7 @@ mod tests {
 
     #[test]
     fn lengths(rt: HostRuntime) -> Result<(), Fail> {
+        // The last of each is the refusal's number, which docs/refusals.md promises.
         for (generators, offered, frame, work, number) in [
             (136, 1088, 1105, 4521, 6),
             (135, 1088, 1105, 4521, 1),
