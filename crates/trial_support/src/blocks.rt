@@ -6,7 +6,7 @@ use crate::rows::Row;
 use crate::sizes::{LENGTH, POWERS, ROW};
 use fields::field::Field;
 
-// The code of the symbol at a place, 0 past the end.
+// The code of the symbol at a place, 0 past the end: there a message goes on with zeros.
 pub fn code_at<F: Field>(symbols: &[F], place: usize) -> u16 {
     symbols.get(place).map_or(0, |x| x.code())
 }

@@ -17,7 +17,8 @@ impl Echelon {
         }
     }
 
-    // What is left of a list when the lists that stand at its powers are taken away, from the top down.
+    // What is left of a list when the lists that stand at its powers are taken away, from the top down. By place, since the rest
+    // changes meanwhile.
     fn reduce<F: Field>(&self, list: [u16; LENGTH]) -> [u16; LENGTH] {
         let mut rest = list;
         for (k, standing) in self.lists.iter().enumerate().rev() {
@@ -145,7 +146,7 @@ fn column_degrees(
     degrees
 }
 
-// The bounds of a row that is not all zero.
+// The bounds of a row that is not all zero. What an empty list or a degree past the ranks lacks counts as zero.
 pub fn bound<F: Field>(row: &Row) -> Bounds {
     let (ranks, divisor) = ranks::<F>(row);
     let divisor_degree = top_of(&divisor).unwrap_or(0);

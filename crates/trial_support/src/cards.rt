@@ -43,7 +43,7 @@ pub fn card_of<F: Field>(heap: Global, row: &Row) -> Result<Vec<u8>, AllocError>
     Ok(card)
 }
 
-// The byte at a place, 0 past the end.
+// The byte at a place, 0 past the end: what lies there counts as zero, and the length is judged apart.
 fn byte(card: &[u8], place: usize) -> u8 {
     card.get(place).copied().unwrap_or(0)
 }

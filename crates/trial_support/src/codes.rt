@@ -3,7 +3,7 @@ ghost use Rattle.std.specs.Prelude.{◌≡◌, ◌<◌, length, drop, IfSome, If
 
 use fields::field::Field;
 
-// The member of a code, zero where there is none.
+// The member of a code, zero where there is none: a code past the last member counts as zero.
 pub fn member_of<F: Field>(code: u16) -> F {
     F::element(u32::from(code)).unwrap_or(F::zero())
 }
@@ -26,7 +26,7 @@ pub fn sum_product<F: Field>(a: u16, b: F, c: u16) -> u16 {
     member_of::<F>(a).add(b.multiply(member_of(c))).code()
 }
 
-// The inverse of the member of a code, zero for zero.
+// The inverse of the member of a code, zero for zero: it is only asked for leading codes, which are not zero.
 pub fn inverse<F: Field>(code: u16) -> F {
     member_of::<F>(code).inverse().unwrap_or(F::zero())
 }

@@ -13,7 +13,7 @@ impl Draws {
         Draws { state: seed }
     }
 
-    // The next number below a bound, 0 where the bound is 0.
+    // The next number below a bound, 0 where the bound is 0, so that a draw is always an answer.
     pub fn below(&mut self, bound: u32) -> u32
         ensures { result ≤ bound - 1 }
     {

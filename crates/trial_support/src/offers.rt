@@ -21,6 +21,26 @@ fn add_column<F: Field>(column: &mut [u16; ROW], by: usize, x: F, other: &[u16; 
     }
 }
 
+// What is done to the columns of a frame.
+#[derive(Clone, Copy)]
+enum Change {
+    Replace,
+    Scale,
+    Swap,
+    Add,
+    AddShifted,
+}
+
+// The changes, one of which is drawn; a shifted multiple is added twice as often as each other is made.
+const CHANGES: [Change; 6] = [
+    Change::Replace,
+    Change::Scale,
+    Change::Swap,
+    Change::Add,
+    Change::AddShifted,
+    Change::AddShifted,
+];
+
 impl Offered {
     // The columns of a frame table.
     pub fn of(frame: &[u16; FRAME]) -> Offered {
@@ -50,18 +70,18 @@ impl Offered {
         else {
             return;
         };
-        match draws.below(6) {
-            0 => {
+        match CHANGES[draws.place(CHANGES.len())] {
+            Change::Replace => {
                 let place = draws.place(n.saturating_mul(POWERS));
                 let code = draws.code::<F>();
                 if let Some(changed) = column.get_mut(place) {
                     *changed = code;
                 }
             }
-            1 => scale(column, member_of::<F>(draws.nonzero::<F>())),
-            2 => self.columns.swap(j, l),
-            3 => add_column(column, 0, F::one(), &other),
-            _ => {
+            Change::Scale => scale(column, member_of::<F>(draws.nonzero::<F>())),
+            Change::Swap => self.columns.swap(j, l),
+            Change::Add => add_column(column, 0, F::one(), &other),
+            Change::AddShifted => {
                 if j != l {
                     let by = draws.place(3);
                     add_column(column, by, member_of::<F>(draws.nonzero::<F>()), &other);

@@ -67,7 +67,7 @@ impl Basis {
         }
     }
 
-    // Reduces vector i at all its places but the leading one, from the highest down.
+    // Reduces vector i at all its places but the leading one, from the highest down. By place, since the vector changes meanwhile.
     fn reduce_tail<F: Field>(&mut self, i: usize) {
         for place in (0..PLACES).rev() {
             if self

@@ -1,4 +1,5 @@
-// The sizes of rows, frames and cards, and where their parts stand in a table.
+// The sizes of rows, frames and cards, and where their parts stand in a table. The second route shares nothing with the library, so
+// its sizes are its own.
 
 // The most generators of a row.
 pub const GENERATORS: usize = 8;

@@ -22,7 +22,7 @@ pub(crate) fn component_of(place: usize) -> usize {
     place % WIDTH
 }
 
-// Copies the powers of a component, from those of a vector that are handed in.
+// Copies the powers of a component, from those of a vector that are handed in; what lies past their end counts as zero.
 fn copy_component(part: &mut [u16], powers: &[u16], i: usize) {
     for (code, power) in part.iter_mut().zip(powers.chunks(WIDTH)) {
         *code = power.get(i).copied().unwrap_or(0);
@@ -62,6 +62,7 @@ impl Vector {
         self.leading
     }
 
+    // The code at a place; what lies past the end counts as zero.
     pub fn at(&self, place: usize) -> u16 {
         self.cells.get(place).copied().unwrap_or(0)
     }

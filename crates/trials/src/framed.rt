@@ -71,7 +71,7 @@ fn component_agrees<F: Field>(framed: &Framed, frame: &[F], i: usize, j: usize) 
 
 // Whether all components of all columns, and none past them, are handed out.
 fn components_agree<F: Field>(framed: &Framed, frame: &[F]) -> bool {
-    (0..TRIED * TRIED).all(|place| component_agrees(framed, frame, place % TRIED, place / TRIED))
+    (0..TRIED).all(|j| (0..TRIED).all(|i| component_agrees(framed, frame, i, j)))
 }
 
 // Whether a row that is all zero is refused with 6, and the frame is left as it was.
@@ -85,22 +85,13 @@ pub fn refusal_agrees<F: Field + Drop>(row: &Row, tables: &mut Tables<F>) -> boo
         tables.frame.as_mut_slice(),
         tables.work.as_mut_slice(),
     );
-    match framed {
-        Ok(_) => false,
-        Err(back) => {
-            back.fault.number() == 6
-                && back.design.count() == row.n
-                && all_are(tables.frame.as_slice(), 1)
-                && all_are(tables.work.as_slice(), 0)
-        }
-    }
+    framed.is_err_and(|back| back.fault.number() == 6 && back.design.count() == row.n)
+        && all_are(tables.frame.as_slice(), 1)
+        && all_are(tables.work.as_slice(), 0)
 }
 
 // Whether reopening gives a draft of as many generators and a frame of zeros.
 pub fn reopening_agrees<F: Field>(framed: Framed, frame: &mut [F]) -> bool {
     let n = framed.generators();
-    match framed.reopen(frame) {
-        Ok(draft) => draft.count() == n && all_are(frame, 0),
-        Err(_) => false,
-    }
+    framed.reopen(frame).is_ok_and(|draft| draft.count() == n) && all_are(frame, 0)
 }

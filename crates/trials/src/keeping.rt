@@ -36,28 +36,21 @@ fn rewriting_agrees<F: Field>(draft: &Draft, table: &mut [F], row: &Row) -> bool
         return false;
     };
     mark(table);
-    match read_card(buffer.get(..length).unwrap_or(&[]), table) {
-        Ok(again) => again.count() == row.n && holds_row(table, row),
-        Err(_) => false,
-    }
+    read_card(buffer.get(..length).unwrap_or(&[]), table).is_ok_and(|again| again.count() == row.n)
+        && holds_row(table, row)
 }
 
 // Whether reading gives the design of a row, which is written and read again.
 fn design_agrees<F: Field>(bytes: &[u8], table: &mut [F], row: &Row) -> bool {
-    match read_card(bytes, table) {
-        Ok(draft) => {
-            draft.count() == row.n && holds_row(table, row) && rewriting_agrees(&draft, table, row)
-        }
-        Err(_) => false,
-    }
+    read_card(bytes, table).is_ok_and(|draft| {
+        draft.count() == row.n && holds_row(table, row) && rewriting_agrees(&draft, table, row)
+    })
 }
 
 // Whether reading is refused by a fault, and leaves the marked table as it was.
 fn fault_agrees<F: Field>(bytes: &[u8], table: &mut [F], fault: Fault) -> bool {
-    match read_card(bytes, table) {
-        Ok(_) => false,
-        Err(refusal) => Fault::of(&refusal) == fault && holds(table, &[1; ROW]),
-    }
+    read_card(bytes, table).is_err_and(|refusal| Fault::of(&refusal) == fault)
+        && holds(table, &[1; ROW])
 }
 
 // Whether reading gives what the bytes mean: the design, or the first fault.

@@ -120,12 +120,10 @@ impl<F: Field + Clone + Drop> Trials<F> {
     // Writes the card of a row, and reads it whole and damaged.
     fn try_keeping(&mut self, row: &Row) -> Result<(), AllocError> {
         let card = card_of::<F>(self.heap, row)?;
-        let written = match self.tables.enter(row) {
-            Ok(draft) => {
-                writing_agrees(&draft, self.tables.generators.as_slice(), card.as_slice())
-            }
-            Err(_) => false,
-        };
+        let entered = self.tables.enter(row);
+        let written = entered.is_ok_and(|draft| {
+            writing_agrees(&draft, self.tables.generators.as_slice(), card.as_slice())
+        });
         self.counts.written.note(written);
         let table = self.tables.generators.as_mut_slice();
         self.counts

@@ -29,8 +29,8 @@ impl<F: Field + Drop> Tables<F> {
     // Enters a row, with ones in the polynomials past it.
     pub fn enter(&mut self, row: &Row) -> Result<Draft, DesignFault> {
         let draft = enter(row, self.generators.as_mut_slice())?;
-        for x in self.generators.iter_mut().skip(row.n * POWERS) {
-            *x = F::one();
+        if let Some(rest) = self.generators.as_mut_slice().get_mut(row.n * POWERS..) {
+            mark(rest);
         }
         Ok(draft)
     }
