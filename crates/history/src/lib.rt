@@ -1,4 +1,4 @@
-// Runs: any list of calls on one design, performed in order.
+// Runs: any list of puts on one draft, performed in order.
 #![tactic(auto)]
 
 pub mod perform;

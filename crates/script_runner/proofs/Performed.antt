@@ -1,6 +1,6 @@
 -- A run answers each request.
 use Rattle.std.proofs.Common.{◌≡◌, suc, List, length, refl, ap}
-use Rattle.runs.specs.Runs.{Performs}
+use Rattle.history.specs.Runs.{Performs}
 
 pub performs_length : {Q T S : Type 0} (step : Q → S → T → S → Type 0) (qs : List Q) (rs : List T) (s t : S) → Performs step qs s rs t → length qs ≡ length rs
 performs_length step qs rs s t Performs.done = refl

@@ -1,5 +1,5 @@
 // Blocks and products by their definition: sums of products of coefficients.
-ghost use Rattle.std.specs.Prelude.{◌≡◌, ◌≤◌, ◌<◌, ◌*◌, ◌+◌, [], length, replicate, take, drop, true, IsTrue, IfSome};
+ghost use Rattle.std.specs.Prelude.{◌≡◌, ◌≤◌, ◌<◌, ◌*◌, [], length, replicate, take, drop, IsTrue, IfSome};
 
 use crate::codes::{add_product, member_of, sum_product, top_of};
 use crate::rows::Row;

@@ -18,7 +18,9 @@ impl Fault {
     }
 
     // What a call's refusal says.
-    pub fn of<E: Refusal>(refusal: &E) -> Fault {
+    pub fn of<E: Refusal>(refusal: &E) -> Fault
+        ensures said { (result.number ≡ E.numbered refusal.now) × (result.place ≡ E.placed refusal.now) }
+    {
         Fault::new(refusal.number(), refusal.place())
     }
 }

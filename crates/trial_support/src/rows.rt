@@ -64,7 +64,8 @@ impl Row {
 
     // Whether polynomial i is the only one that is not zero.
     pub fn is_alone(&self, i: usize) -> bool
-        ensures { IsTrue result → (j : ℕ) (p : List ℕ) → slice_get (take self.now.n self.now.polynomials) j ≡ Some p → j ≢ i → All (λ code. code ≡ 0) p }
+        ensures { IsTrue result → (j : ℕ) (p : List ℕ) → slice_get (take self.now.n self.now.polynomials) j ≡ Some p
+            → j ≢ i → All (λ code. code ≡ 0) p }
     {
         let mut polynomials = self.polynomials().iter().enumerate();
         polynomials.all(|(j, polynomial)| top_of(polynomial).is_some() == (i == j))
