@@ -142,14 +142,17 @@ fn column<F: Field>(heap: Global, desk: &Desk<F>, i: u32, j: u32) -> Result<Stri
     Ok(format!(in heap; "column {polynomial}")?)
 }
 
+// The symbols that a table is made for, of as many as a call names: one more than SYMBOLS is refused as any larger number is, and no more memory is asked for.
+fn lent(symbols: usize) -> usize {
+    symbols.min(SYMBOLS + 1)
+}
+
 fn encode<F: Field>(heap: Global, desk: &mut Desk<F>, codes: &[u32]) -> Result<String, Stopped> {
     let message = elements(heap, codes)?;
     let framed = desk.framed()?;
-    // A longer message than that is refused whatever the block.
-    let symbols = message.len().min(SYMBOLS + 1);
     let length = framed
         .generators()
-        .saturating_mul(symbols.saturating_add(framed.degree()));
+        .saturating_mul(lent(message.len()).saturating_add(framed.degree()));
     let block = zeros(heap, length)?;
     ask(heap, desk, Request::Encode { message, block })
 }
@@ -166,8 +169,7 @@ fn invert<F: Field>(
     codes: &[u32],
 ) -> Result<String, Stopped> {
     let block = elements(heap, codes)?;
-    let length = (symbols as usize).min(SYMBOLS + 1);
-    let message = zeros(heap, length)?;
+    let message = zeros(heap, lent(symbols as usize))?;
     ask(heap, desk, Request::Invert { block, message })
 }
 
@@ -261,9 +263,8 @@ pub fn run_call<F: Field>(
     desk: &mut Desk<F>,
     call: &Call,
 ) -> Result<String, AllocError> {
-    match answered(heap, desk, call) {
-        Ok(line) => Ok(line),
-        Err(Stopped::NoMemory) => Err(AllocError),
-        Err(stopped) => format!(in heap; "{stopped}"),
-    }
+    answered(heap, desk, call).or_else(|stopped| match stopped {
+        Stopped::NoMemory => Err(AllocError),
+        _ => format!(in heap; "{stopped}"),
+    })
 }

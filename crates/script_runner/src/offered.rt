@@ -46,7 +46,7 @@ fn write_columns<F: Field>(table: &mut [F], columns: &[Vec<Vec<u32>>]) -> Result
     Ok(())
 }
 
-// The offered table. Columns that do not fit give a table that is one too long, which the call refuses.
+// The offered table. Columns that do not fit give a table that is longer by 1, so that the call itself refuses it, with its own number, layer and place.
 pub fn offered<F: Field>(heap: Global, columns: &[Vec<Vec<u32>>]) -> Result<Vec<F>, Stopped> {
     let length = if columns_fit(columns) {
         COLUMNS

@@ -1,8 +1,24 @@
 // What is printed of the answers.
+ghost use Rattle.std.specs.Iterator.{IsFinite};
+
 use design::framed::Framed;
 use fields::field::Field;
 use std::fmt;
 use tables::sizes::{COLUMNS, FRAME, WIDTH};
+
+// Writes items, with a blank before each.
+fn blanks<W: fmt::Write, T: fmt::Display + Drop, I: Iterator<Item = T> + Drop>(
+    f: &mut fmt::Formatter<W>,
+    items: I,
+) -> fmt::Result
+    requires can { I.can_next items }
+    requires ends { IsFinite (I.remaining items) }
+{
+    for item in items {
+        write!(f, " {item}")?;
+    }
+    Ok(())
+}
 
 // Bytes, with a blank before each.
 #[derive(Drop)]
@@ -10,24 +26,17 @@ pub struct BytesText<'a>(pub &'a [u8]);
 
 impl fmt::Display for BytesText<'_> {
     fn fmt<W: fmt::Write>(&self, f: &mut fmt::Formatter<W>) -> fmt::Result {
-        for b in self.0 {
-            write!(f, " {b}")?;
-        }
-        Ok(())
+        blanks(f, self.0.iter())
     }
 }
 
-// The codes of symbols, with a blank before each. A byte is printed as it stands and is no element of a field, so the two texts share no trait.
+// The codes of symbols, with a blank before each.
 #[derive(Drop)]
 pub struct SymbolsText<'a, F: Field>(pub &'a [F]);
 
 impl<F: Field> fmt::Display for SymbolsText<'_, F> {
     fn fmt<W: fmt::Write>(&self, f: &mut fmt::Formatter<W>) -> fmt::Result {
-        for x in self.0 {
-            let code = x.code();
-            write!(f, " {code}")?;
-        }
-        Ok(())
+        blanks(f, self.0.iter().map(|x| x.code()))
     }
 }
 
@@ -40,12 +49,7 @@ impl<F: Field> fmt::Display for PolynomialText<'_, F> {
         let Some(last) = self.0.iter().rposition(|x| x.code() != 0) else {
             return write!(f, "0");
         };
-        for (power, x) in self.0[..=last].iter().enumerate() {
-            let comma = if power == 0 { "" } else { "," };
-            let code = x.code();
-            write!(f, "{comma}{code}")?;
-        }
-        Ok(())
+        f.write_joined(self.0[..=last].iter().map(|x| x.code()), ",")
     }
 }
 

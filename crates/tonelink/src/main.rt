@@ -63,9 +63,9 @@ fn receive(
         Ok(false) => "unclean",
         Err(_) => "refused",
     };
-    if invert(framed, frame, block, &mut message).is_err() {
+    let Ok(_) = invert(framed, frame, block, &mut message) else {
         return Err(anyhow!("invert was refused"));
-    }
+    };
     let sent = SymbolsText { symbols: block };
     let home = SymbolsText { symbols: &message };
     println!(rt; "  block {sent}: {verdict}, inverted to {home}")?;
@@ -75,9 +75,9 @@ fn receive(
 // Sends a message over the link, and once more with a hit on the air.
 fn send(rt: &HostRuntime, framed: &Framed, table: &[Tone], frame: &[Tone]) -> anyhow::Result<()> {
     let mut block = [Tone::T0; 8];
-    if encode(framed, table, &[Tone::T3, Tone::T1], &mut block).is_err() {
+    let Ok(_) = encode(framed, table, &[Tone::T3, Tone::T1], &mut block) else {
         return Err(anyhow!("encode was refused"));
-    }
+    };
     println!(rt; "The message 3 1 is sent, and once more with its fourth symbol hit:")?;
     receive(rt, framed, frame, &block)?;
     block[3] = Tone::T9;

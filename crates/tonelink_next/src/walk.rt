@@ -5,7 +5,7 @@ use fields::field::Field;
 use history::request::Request as Entry;
 use runs::request::{Answer, Design, Request};
 use std::alloc::Global;
-use tables::sizes::{COLUMNS, WORK};
+use tables::sizes::{COLUMNS, GENERATORS, WIDTH, WORK};
 use tones::Tone;
 use walkthrough::card::keep;
 use walkthrough::columns::{show_columns, spoiled};
@@ -15,29 +15,30 @@ use walkthrough::products::show_products;
 // The message that is sent.
 const SENT: [Tone; 2] = [Tone::T3, Tone::T1];
 
-// Columns offered for (s^2, 1 + s), by the places of their coefficients: (1, 1 + 30s) and (1 + s, 30s^2).
+// Columns offered for (s^2, 1 + s): (1, 1 + 30s) and (1 + s, 30s^2). A coefficient stands GENERATORS places further for each column before it, WIDTH for each component, and 1 for each power.
 const GOOD: [(usize, Tone); 6] = [
     (0, Tone::T1),
-    (17, Tone::T1),
-    (18, Tone::T30),
-    (136, Tone::T1),
-    (137, Tone::T1),
-    (155, Tone::T30),
+    (WIDTH, Tone::T1),
+    (WIDTH + 1, Tone::T30),
+    (GENERATORS, Tone::T1),
+    (GENERATORS + 1, Tone::T1),
+    (GENERATORS + WIDTH + 2, Tone::T30),
 ];
 
 // The same with the second column times s.
 const LONGER: [(usize, Tone); 6] = [
     (0, Tone::T1),
-    (17, Tone::T1),
-    (18, Tone::T30),
-    (137, Tone::T1),
-    (138, Tone::T1),
-    (156, Tone::T30),
+    (WIDTH, Tone::T1),
+    (WIDTH + 1, Tone::T30),
+    (GENERATORS + 1, Tone::T1),
+    (GENERATORS + 2, Tone::T1),
+    (GENERATORS + WIDTH + 3, Tone::T30),
 ];
 
 // Enters coefficients, then prints the generators.
 fn enter(rt: &HostRuntime, station: Station, entries: &[Entry]) -> anyhow::Result<Station> {
     let mut requests = Vec::new(rt.alloc());
+    // Both types belong to other crates, so that no `From` between them can be written here.
     for Entry::Put { i, power, code } in entries {
         requests.push(Request::Put {
             i: *i,

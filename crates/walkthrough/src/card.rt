@@ -1,6 +1,7 @@
 // A design's card: written, read back, and read damaged.
 use anyhow::anyhow;
 use cards::read::read_card;
+use cards::sizes::CARD;
 use cards::write::write_card;
 use design::draft::Draft;
 use fields::fault::RefusalText;
@@ -27,7 +28,7 @@ fn show_reading(rt: &HostRuntime, card: &[u8]) -> anyhow::Result<()> {
 
 // Writes the design's card, reads it back, and reads a damaged one.
 pub fn keep(rt: &HostRuntime, draft: &Draft, table: &[Tone]) -> anyhow::Result<()> {
-    let mut buffer = [0u8; 555];
+    let mut buffer = [0u8; CARD];
     let Ok(length) = write_card(draft, table, &mut buffer) else {
         return Err(anyhow!("the card was refused"));
     };
