@@ -30,6 +30,7 @@ pub fn numbers_agree(row: &Row, framed: &Framed, bounds: &Bounds) -> bool {
     framed.generators() == row.n
         && framed.degree() == bounds.degree
         && framed.divisor_degree() == bounds.divisor_degree
+        && bounds.degrees[0].is_some()
         && degrees
             .iter()
             .zip(bounds.degrees.iter())
