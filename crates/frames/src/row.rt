@@ -14,11 +14,11 @@ use tables::clear;
 use tables::rows::scale;
 use tables::sizes::{GENERATORS, WIDTH, WORK};
 
-// Where the divisor stands in the work table.
-pub const DIVISOR: usize = 4368;
+// Where the divided row begins in the work table, which it ends.
+pub const ROW: usize = WORK - GENERATORS;
 
-// Where the divided row begins in the work table.
-pub const ROW: usize = DIVISOR + WIDTH;
+// Where the divisor stands in the work table: before the divided row.
+pub const DIVISOR: usize = ROW - WIDTH;
 
 // The degrees of a row's greatest common divisor and of the row divided by it.
 #[derive(Clone, Copy, PartialEq, Eq, Debug)]

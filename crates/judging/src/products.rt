@@ -12,10 +12,7 @@ use fields::field::Field;
 use polynomials::{degree, multiply_into};
 use tables::clear;
 use tables::rows::add_multiple;
-use tables::sizes::{GENERATORS, WIDTH};
-
-// How many coefficients the product of two polynomials has.
-const PRODUCT: usize = 33;
+use tables::sizes::{GENERATORS, PRODUCT, WIDTH};
 
 impl<'a, F: Field> Offer<'a, F> {
     // Writes the generators times a column.

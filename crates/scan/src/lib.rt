@@ -14,7 +14,7 @@ use crate::walk::Walk;
 use fields::field::Field;
 use frames::row::{DIVISOR, ROW};
 use tables::rows::{clear_part, copy_from};
-use tables::sizes::{COLUMNS, FRAME, WIDTH, WORK};
+use tables::sizes::{COLUMNS, FRAME, PRODUCT, WIDTH, WORK};
 
 mod columns;
 mod lists;
@@ -22,10 +22,10 @@ mod row;
 mod walk;
 
 // How many rows a list has, at most.
-const ROWS: usize = 33;
+const ROWS: usize = PRODUCT;
 
 // How many factors the steps of elimination have, at most.
-const FACTORS: usize = 1089;
+const FACTORS: usize = ROWS * ROWS;
 
 // Writes the frame columns of a row into a cleared frame, by way of two tables.
 fn scan<F: Field>(row: Row<'_, F>, factors: &mut [F], column: &mut [F], frame: &mut [F])

@@ -1,16 +1,22 @@
 // How long the lent tables are, and the rows in them.
 
+// How many generators a design has at most, and columns a frame.
+pub const MAX_COUNT: usize = 8;
+
 // How many coefficients a polynomial has: powers 0 to 16.
 pub const WIDTH: usize = 17;
 
+// How many coefficients the product of two polynomials has.
+pub const PRODUCT: usize = 2 * WIDTH - 1;
+
 // The table of generators: eight polynomials. A column of a frame is as long.
-pub const GENERATORS: usize = 8 * WIDTH;
+pub const GENERATORS: usize = MAX_COUNT * WIDTH;
 
 // The columns of a frame, in a table of their own where they are offered: eight columns of eight polynomials.
-pub const COLUMNS: usize = 8 * GENERATORS;
+pub const COLUMNS: usize = MAX_COUNT * GENERATORS;
 
 // The frame table: the columns, and behind them the divisor.
 pub const FRAME: usize = COLUMNS + WIDTH;
 
-// The work table: where a row begins in it, `frames::row` says.
-pub const WORK: usize = 4521;
+// The work table: a row as long as a product for each coefficient of the generators, and one more. What lies where in it, `frames::row` says.
+pub const WORK: usize = PRODUCT * (GENERATORS + 1);
