@@ -20,34 +20,10 @@ module _ {F M : Type 0} (o : RingOps M) (m : F → M) where
     | no n ↦ at_set_other o m xs k r x n ∙ sym (write_other k (m x) (at o m xs) r n)
   ])
 
-  -- below r each entry has y times its factor more than at the start, and from r on none is changed
-  abbrev pub Added : List F → List F → M → List F → ℕ → Type 0
-  Added start factors y now r =
-      ((k : ℕ) → k < r → at o m now k ≡ o.sum (at o m start k) (o.product (at o m factors k) y))
-      × ((k : ℕ) → r ≤ k → at o m now k ≡ at o m start k)
-
-  pub added_more : (start factors : List F) (y : M) (now : List F) (r : ℕ) (x : F) → r < length now → Added start factors y now r → m x ≡ o.sum (at o m now r) (o.product (at o m factors r) y) → Added start factors y (set now r x) (r + 1)
-  added_more start factors y now r x room (a, b) is = (
-    λ k h. elim (ℕ_discrete k r) [
-      | yes e ↦ subst (λ j. at o m (set now r x) j ≡ o.sum (at o m start j) (o.product (at o m factors j) y)) (sym e) (at_set_same o m now r x room ∙ is ∙ ap (λ s. o.sum s (o.product (at o m factors r) y)) (b r (le_refl r)))
-      | no n ↦ at_set_other o m now r k x n ∙ a k (omega arith)
-    ],
-    λ k h. at_set_other o m now r k x (λ e. omega arith) ∙ b k (omega arith),
-  )
-
-  module _ (L : RingLaws o) where
-    pub added_all : (start factors : List F) (y : M) (now : List F) (r : ℕ) → length factors ≡ length now → length now ≡ length start → length now ≤ r → Added start factors y now r → (k : ℕ) → at o m now k ≡ o.sum (at o m start k) (o.product (at o m factors k) y)
-    added_all start factors y now r e h l (a, b) k = elim (dec_lt k r) [
-      | yes i ↦ a k i
-      | no n ↦
-          at_past o m now k (omega arith)
-          ∙ sym (ap₂ (λ s t. o.sum s (o.product t y)) (at_past o m start k (omega arith)) (at_past o m factors k (omega arith)) ∙ solve o L (y ∷ []) (𝟎 ⊞ 𝟎 ⊠ var 0) 𝟎 refl)
-    ]
-
-    -- the column after a step, as it is written
-    pub step_written : (e u : ℕ → M) (t p : ℕ) (now : List F) (exchanged product : F) → t < length now → p < length now → m product ≡ o.product (e p) (u p) → m exchanged ≡ u t → ((r : ℕ) → at o m now r ≡ o.sum (u r) (o.product (e r) (o.negative (m product)))) → at o m (set (set now p exchanged) t product) ≡ step o e t p u
-    step_written e u t p now exchanged product lt lp ep et rest =
-        at_set (set now p exchanged) t product (rw length-set lt)
-        ∙ ap (write t (m product)) (at_set now p exchanged lp)
-        ∙ ap (λ f. write t (m product) (write p (m exchanged) f)) (fun_ext rest)
-        ∙ ap₂ (λ x y. write t x (write p y (λ r. o.sum (u r) (o.product (e r) (o.negative x))))) ep et
+  -- the column after a step, as it is written
+  pub step_written : (e u : ℕ → M) (t p : ℕ) (now : List F) (exchanged product : F) → t < length now → p < length now → m product ≡ o.product (e p) (u p) → m exchanged ≡ u t → ((r : ℕ) → at o m now r ≡ o.sum (u r) (o.product (e r) (o.negative (m product)))) → at o m (set (set now p exchanged) t product) ≡ step o e t p u
+  step_written e u t p now exchanged product lt lp ep et rest =
+      at_set (set now p exchanged) t product (rw length-set lt)
+      ∙ ap (write t (m product)) (at_set now p exchanged lp)
+      ∙ ap (λ f. write t (m product) (write p (m exchanged) f)) (fun_ext rest)
+      ∙ ap₂ (λ x y. write t x (write p y (λ r. o.sum (u r) (o.product (e r) (o.negative x))))) ep et

@@ -2,9 +2,10 @@
 use Rattle.std.proofs.Common.{◌≡◌, ℕ, zero, suc, ◌+◌, ◌-◌, ◌*◌, ◌<◌, ◌≤◌, List, [], ◌∷◌, length, take, drop, sym, refl, ap, ◌∙◌, ap₂, suc-add, mul-le-mul_left, zero-add, mul-suc, add-one, arith}
 use mathlib.Core.Path.{fun_ext}
 use borrow.Rule.Slice.PartMut.{put_mid}
-use Rattle.std.proofs.lemmas.Slice.{take-put_mid_below, drop-put_mid, between-put_mid}
+use Rattle.std.proofs.lemmas.Slice.{between-put_mid}
 use Rattle.algebra.specs.Rings.{RingOps}
 use Rattle.tables.specs.Places.{at}
+use Rattle.tables.proofs.Slices.{at_drop}
 use Rattle.elimination.specs.Steps.{front, step, reduced, column_at}
 use Rattle.elimination.proofs.StepMaps.{front_low, front_high, front_is}
 
@@ -25,11 +26,6 @@ pub reduced_more : {M : Type 0} (o : RingOps M) (e : ℕ → ℕ → M) (p : ℕ
 reduced_more o e p t u now next f a b c = rw add-one (c ∙ ap₂ (λ g v. step o g t (p t) v) b a)
 
 module _ {F M : Type 0} (o : RingOps M) (m : F → M) where
-  at_drop : (k : ℕ) (xs : List F) (r : ℕ) → at o m (drop k xs) r ≡ at o m xs (k + r)
-  at_drop zero xs r = ap (at o m xs) (sym (zero-add r))
-  at_drop (suc k) [] r = refl
-  at_drop (suc k) (x ∷ xs) r = at_drop k xs r ∙ ap (at o m (x ∷ xs)) (sym (suc-add k r))
-
   at_take : (n : ℕ) (xs : List F) (r : ℕ) → at o m (take n xs) r ≡ front o n (at o m xs) r
   at_take zero xs r = refl
   at_take (suc n) [] zero = refl
@@ -39,17 +35,11 @@ module _ {F M : Type 0} (o : RingOps M) (m : F → M) where
 
   -- the members of a part of a table
   pub at_part : (k n : ℕ) (xs : List F) → at o m (take n (drop k xs)) ≡ front o n (λ r. at o m xs (k + r))
-  at_part k n xs = fun_ext (at_take n (drop k xs)) ∙ ap (front o n) (fun_ext (at_drop k xs))
+  at_part k n xs = fun_ext (at_take n (drop k xs)) ∙ ap (front o n) (fun_ext (at_drop o m k xs))
 
   -- what stands below the rows of step n is all that the steps before it have
   pub columns_same : (rows n : ℕ) (xs ys : List F) → ((k : ℕ) → k < rows * n → at o m ys k ≡ at o m xs k) → (t : ℕ) → t < n → column_at o m rows ys t ≡ column_at o m rows xs t
   columns_same rows n xs ys e t h = front_ext o rows (λ r. at o m ys (rows * t + r)) (λ r. at o m xs (rows * t + r)) (λ r l. e (rows * t + r) (omega (arith, row_room rows t n h)))
-
-  at_of_take : (k : ℕ) (xs : List F) (r : ℕ) → r < k → at o m (take k xs) r ≡ at o m xs r
-  at_of_take k xs r h = at_take k xs r ∙ front_low o k (at o m xs) r h
-
-  at_from : (k : ℕ) (xs : List F) (r : ℕ) → k ≤ r → at o m (drop k xs) (r - k) ≡ at o m xs r
-  at_from k xs r h = at_drop k xs (r - k) ∙ ap (at o m xs) (omega arith)
 
   -- a table after its part of n elements from k on was replaced by ys
   module _ (k n : ℕ) (xs ys : List F) (room : k + n ≤ length xs) (long : length ys ≡ n) where
@@ -64,15 +54,3 @@ module _ {F M : Type 0} (o : RingOps M) (m : F → M) where
         ap (at o m) (sym (between-put_mid k (k + n - k) xs ys (k + n) (omega arith) (omega arith)))
         ∙ ap (λ j. at o m (take j (drop k (put_mid k (k + n - k) xs ys)))) size
         ∙ at_part k n (put_mid k (k + n - k) xs ys)
-
-    pub replaced_before : (r : ℕ) → r < k → at o m (put_mid k (k + n - k) xs ys) r ≡ at o m xs r
-    replaced_before r h =
-        sym (at_of_take k (put_mid k (k + n - k) xs ys) r h)
-        ∙ ap (λ zs. at o m zs r) (take-put_mid_below k (k + n - k) xs ys k (omega arith) (omega arith))
-        ∙ at_of_take k xs r h
-
-    pub replaced_behind : (r : ℕ) → k + n ≤ r → at o m (put_mid k (k + n - k) xs ys) r ≡ at o m xs r
-    replaced_behind r h =
-        sym (at_from (k + n) (put_mid k (k + n - k) xs ys) r h)
-        ∙ ap (λ zs. at o m zs (r - (k + n))) (drop-put_mid k (k + n - k) xs ys (k + n) (omega arith) (omega arith) (omega arith))
-        ∙ at_from (k + n) xs r h

@@ -1,7 +1,7 @@
 -- A whole matrix, column by column.
 use Rattle.std.proofs.Common.{◌≡◌, ℕ, suc, ◌+◌, ◌*◌, ◌<◌, ◌≤◌, Bool, true, false, List, length, set, refl, ap, ◌∙◌, mul-suc, add-one, arith}
 use Rattle.algebra.specs.Rings.{RingOps, RingLaws}
-use Rattle.tables.specs.Places.{at}
+use Rattle.tables.specs.Places.{at, Kept}
 use Rattle.elimination.specs.Steps.{column_at, entry_at, rank_after}
 use Rattle.elimination.specs.Echelon.{Relations, Eliminated, TakesNext, places_after}
 use Rattle.elimination.proofs.Tables.{front_ext, columns_same}
@@ -26,16 +26,16 @@ module _ {F M : Type 0} (o : RingOps M) (m : F → M) (L : RingLaws o) (rows : �
   }
 
   module _ (q rank : ℕ) (steps : List F) (pivots places : List ℕ) (matrix : List F) (X : Progress o m rows start q rank steps pivots places matrix)
-      (after : List F) (rows_after : List ℕ) (now : List F) (before : (k : ℕ) → k < rows * q → at o m now k ≡ at o m matrix k) (behind : (k : ℕ) → rows * q + rows ≤ k → at o m now k ≡ at o m matrix k) where
+      (after : List F) (rows_after : List ℕ) (now : List F) (others : Kept o m (rows * q) rows matrix now) where
     -- column q is as at the start
     column_new : (r : ℕ) → r < rows → column_at o m rows matrix q r ≡ W q r
     column_new r l = ap (λ c. c r) (front_ext o rows (λ r. at o m matrix (rows * q + r)) (λ r. at o m start (rows * q + r)) (λ r l. X.left (rows * q + r) (omega arith)))
 
     columns_old : (j : ℕ) → j < q → column_at o m rows now j ≡ column_at o m rows matrix j
-    columns_old = columns_same o m rows q matrix now before
+    columns_old = columns_same o m rows q matrix now (λ k h. others k (λ w. omega arith))
 
     left_more : (k : ℕ) → rows * suc q ≤ k → at o m now k ≡ at o m start k
-    left_more k h = let l : rows * q + rows ≤ k = omega (arith, mul-suc rows q) in behind k l ∙ X.left k (omega arith)
+    left_more k h = let l : rows * q + rows ≤ k = omega (arith, mul-suc rows q) in others k (λ w. omega arith) ∙ X.left k (omega arith)
 
     pub progress_more : (pivotal : Bool) → rank_after rank pivotal ≤ rows → rows ≤ length places → TakesNext o rows q rank (column_at o m rows steps) (entry_at pivots) places (column_at o m rows matrix q) (column_at o m rows after) (entry_at rows_after) (column_at o m rows now q) pivotal → Progress o m rows start (q + 1) (rank_after rank pivotal) after rows_after (places_after rank q places pivotal) now
     progress_more true bound room T = rw (add-one q) (record {

@@ -2,11 +2,11 @@
 #![tactic(auto)]
 
 ghost use Rattle.std.specs.Prelude.{◌≡◌, ℕ, ◌+◌, ◌*◌, ◌<◌, ◌≤◌, length};
-ghost use Rattle.tables.specs.Places.{at};
+ghost use Rattle.tables.specs.Places.{at, Kept};
 ghost use Rattle.elimination.specs.Echelon.{Echelon, Relations, TakesNext, places_after};
-ghost use Rattle.elimination.specs.Steps.{write, reduced, column_at, entry_at, rank_after, AreSteps, Takes};
+ghost use Rattle.elimination.specs.Steps.{reduced, column_at, entry_at, rank_after, AreSteps, Takes};
 
-use crate::step::{Pivot, find_pivot, record_step, reduce};
+use crate::step::{find_pivot, record_step, reduce};
 use fields::field::Field;
 
 pub mod step;
@@ -36,7 +36,7 @@ impl<'a, F: Field> Steps<'a, F> {
         }
     }
 
-    // Brings a column up to date by the steps.
+    // Brings a column up to date by the steps. Only behind a `&self` does the check know that lending the tables leaves them as they are.
     fn bring(&self, column: &mut [F])
         requires { length column.old ≡ self.now.rows }
         ensures { at F.ops F.member column.new ≡ reduced F.ops (column_at F.ops F.member self.now.rows self.now.factors.now) (entry_at self.now.pivots.now) self.now.rank (at F.ops F.member column.old) }
@@ -44,18 +44,8 @@ impl<'a, F: Field> Steps<'a, F> {
         reduce(self.rows, self.rank, self.factors, self.pivots, column);
     }
 
-    // Writes the numbers of one step more.
-    fn record(&mut self, column: &[F], pivot: Pivot<F>)
-        requires room { (self.old.rows * self.old.rank + self.old.rows ≤ length self.old.factors.now) × ((length column.now ≡ self.old.rows) × (pivot.row < self.old.rows)) }
-        ensures here { column_at F.ops F.member self.old.rows self.new.factors.now self.old.rank ≡ write pivot.row (F.member pivot.inverse) (at F.ops F.member column.now) }
-        ensures others { (k : ℕ) → k < self.old.rows * self.old.rank → at F.ops F.member self.new.factors.now k ≡ at F.ops F.member self.old.factors.now k }
-        ensures kept { (self.new.rows ≡ self.old.rows) × ((self.new.rank ≡ self.old.rank) × (self.new.pivots.now ≡ self.old.pivots.now)) }
-    {
-        record_step(self.rows, self.rank, self.factors, column, pivot);
-    }
-
-    // Takes one more column: reduces it by the steps found so far, answers whether it is pivotal, and if it is, records the step that turns it into
-    // the next unit vector.
+    // Takes one more column: reduces it by the steps found so far, answers whether it is pivotal, and if it is, records the step that turns
+    // it into the next unit vector.
     pub fn take_column(&mut self, column: &mut [F]) -> bool
         requires { length column.old ≡ self.old.rows }
         ensures takes { Takes F.ops self.old.rows self.old.rank (column_at F.ops F.member self.old.rows self.old.factors.now) (entry_at self.old.pivots.now) (at F.ops F.member column.old) (column_at F.ops F.member self.old.rows self.new.factors.now) (entry_at self.new.pivots.now) (at F.ops F.member column.new) result }
@@ -65,7 +55,7 @@ impl<'a, F: Field> Steps<'a, F> {
         let Some(pivot) = find_pivot(column, self.rank) else {
             return false;
         };
-        self.record(column, pivot);
+        record_step(self.rows, self.rank, self.factors, column, pivot);
         self.pivots[self.rank] = pivot.row;
         self.rank += 1;
         true
@@ -76,14 +66,14 @@ impl<'a, F: Field> Steps<'a, F> {
         requires { self.old.rows * q + self.old.rows ≤ length matrix.old }
         ensures takes { Takes F.ops self.old.rows self.old.rank (column_at F.ops F.member self.old.rows self.old.factors.now) (entry_at self.old.pivots.now) (column_at F.ops F.member self.old.rows matrix.old q) (column_at F.ops F.member self.old.rows self.new.factors.now) (entry_at self.new.pivots.now) (column_at F.ops F.member self.old.rows matrix.new q) result }
         ensures counted { (self.new.rows ≡ self.old.rows) × (self.new.rank ≡ rank_after self.old.rank result) }
-        ensures before { (k : ℕ) → k < self.old.rows * q → at F.ops F.member matrix.new k ≡ at F.ops F.member matrix.old k }
-        ensures behind { (k : ℕ) → self.old.rows * q + self.old.rows ≤ k → at F.ops F.member matrix.new k ≡ at F.ops F.member matrix.old k }
+        ensures others { Kept F.ops F.member (self.old.rows * q) self.old.rows matrix.old matrix.new }
     {
         let start = self.rows * q;
         self.take_column(&mut matrix[start..start + self.rows])
     }
 
-    // Takes a column of a matrix as column q of all columns; if it is pivotal, q is written behind the places of the pivotal columns before it.
+    // Takes a column of a matrix as column q of all columns; if it is pivotal, q is written behind the places of the pivotal columns before
+    // it. `eliminate` hands one number twice, but the call is public, and its callers may take a column from elsewhere.
     pub fn take_next(
         &mut self,
         places: &mut [usize],
@@ -97,28 +87,19 @@ impl<'a, F: Field> Steps<'a, F> {
         ensures placed { places.new ≡ places_after self.old.rank q places.old result }
         ensures takes { TakesNext F.ops self.old.rows q self.old.rank (column_at F.ops F.member self.old.rows self.old.factors.now) (entry_at self.old.pivots.now) places.old (column_at F.ops F.member self.old.rows matrix.old column) (column_at F.ops F.member self.old.rows self.new.factors.now) (entry_at self.new.pivots.now) (column_at F.ops F.member self.old.rows matrix.new column) result }
         ensures counted { (self.new.rows ≡ self.old.rows) × (self.new.rank ≡ rank_after self.old.rank result) }
-        ensures before { (k : ℕ) → k < self.old.rows * column → at F.ops F.member matrix.new k ≡ at F.ops F.member matrix.old k }
-        ensures behind { (k : ℕ) → self.old.rows * column + self.old.rows ≤ k → at F.ops F.member matrix.new k ≡ at F.ops F.member matrix.old k }
+        ensures others { Kept F.ops F.member (self.old.rows * column) self.old.rows matrix.old matrix.new }
     {
         let rank = self.rank;
         let pivotal = self.take_column_of(matrix, column);
-        note_place(places, rank, q, pivotal);
+        if pivotal {
+            places[rank] = q;
+        }
         pivotal
     }
 }
 
-// Writes the place of column q behind those of the pivotal columns before it, if it is pivotal.
-fn note_place(places: &mut [usize], rank: usize, q: usize, pivotal: bool)
-    requires { rank_after rank pivotal ≤ length places.old }
-    ensures { places.new ≡ places_after rank q places.old pivotal }
-{
-    if pivotal {
-        places[rank] = q;
-    }
-}
-
-// Reduces every column of a matrix, whose columns stand one behind the other. Answers the rank, and writes the places of the pivotal columns.
-// The tables of the steps are lent apart, since there are no steps yet.
+// Reduces every column of a matrix, whose columns stand one behind the other. Answers the rank, and writes the places of the pivotal
+// columns. The tables of the steps are lent apart, since there are no steps yet.
 pub fn eliminate<F: Field>(
     rows: usize,
     columns: usize,

@@ -4,17 +4,7 @@ ghost use Rattle.tables.specs.Places.{at};
 ghost use Rattle.elimination.specs.Steps.{step as after_step, reduced, column_at, entry_at, write, AreSteps, IsPivot};
 
 use fields::field::Field;
-
-// Takes x times the factors from the column, row by row.
-fn subtract_multiple<F: Field>(factors: &[F], x: F, column: &mut [F])
-    requires { length factors.now ≡ length column.old }
-    ensures { (r : ℕ) → at F.ops F.member column.new r ≡ F.ops.sum (at F.ops F.member column.old r) (F.ops.product (at F.ops F.member factors.now r) (F.ops.negative (F.member x))) }
-{
-    let minus = x.negate();
-    for (r, entry) in column.iter_mut().enumerate() {
-        *entry = entry.add(factors[r].multiply(minus));
-    }
-}
+use tables::rows::add_multiple;
 
 // Performs step t, whose pivot row is p, on a column.
 pub fn apply_step<F: Field>(factors: &[F], t: usize, p: usize, column: &mut [F])
@@ -24,12 +14,12 @@ pub fn apply_step<F: Field>(factors: &[F], t: usize, p: usize, column: &mut [F])
 {
     let product = factors[p].multiply(column[p]);
     let exchanged = column[t];
-    subtract_multiple(factors, product, column);
+    add_multiple(column, 0, product.negate(), factors);
     column[p] = exchanged;
     column[t] = product;
 }
 
-// The numbers of step t.
+// The numbers of step t. By its ends, since chunks of no rows are refused.
 fn factors_of<F: Field>(rows: usize, steps: &[F], t: usize) -> &[F]
     requires { rows * t + rows ≤ length steps.now }
     ensures value { at F.ops F.member result.now ≡ column_at F.ops F.member rows steps.now t }
@@ -38,7 +28,7 @@ fn factors_of<F: Field>(rows: usize, steps: &[F], t: usize) -> &[F]
     &steps[rows * t..rows * t + rows]
 }
 
-// Brings a column up to date by the first steps.
+// Brings a column up to date by the first steps. No `zip` with the chunks of the factors, since chunks of no rows are refused.
 pub fn reduce<F: Field>(rows: usize, rank: usize, factors: &[F], pivots: &[usize], column: &mut [F])
     requires room { (rows * rank ≤ length factors.now) × ((rank ≤ length pivots.now) × (length column.old ≡ rows)) }
     requires valid { AreSteps F.ops rows rank (column_at F.ops F.member rows factors.now) (entry_at pivots.now) }

@@ -15,15 +15,24 @@ pub enum Layer {
     Link = 4,
 }
 
-impl Layer {
-    pub fn number(self) -> u8
-        ensures { result ≡ layer_number self }
-    {
-        self as u8
+impl From<Layer> for u8 {
+    ghost from_gives = { λ x r. r ≡ layer_number x };
+
+    fn from(layer: Layer) -> u8 {
+        layer as u8
     }
 }
 
-// What every refusal carries.
+impl Layer {
+    // The number that is printed.
+    pub fn number(self) -> u8
+        ensures { result ≡ layer_number self }
+    {
+        self.into()
+    }
+}
+
+// What every refusal carries. Questions and places stay numbers, with 0 for no place: refusals are printed so, and docs/refusals.md lists them.
 pub trait Refusal {
     ghost numbered: { Self → ℕ };
 

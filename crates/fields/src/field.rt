@@ -42,7 +42,7 @@ pub trait Field: Copy {
     fn inverse(self) -> Option<Self>
         ensures { Inverts ops (member self) (option_map member result) };
 
-    // Whether both mean one member.
+    // Whether both mean one member. Two elements may mean one, so no derived `==` says it.
     fn same(self, other: Self) -> bool
         ensures { Same (member self) (member other) result };
 

@@ -8,7 +8,7 @@ use fields::field::Field;
 use polynomials::{degree, reduce};
 use tables::rows::swap;
 
-// One step: the right polynomial, of degree e, goes to the left, and what it leaves of the other, which was below s^bound, to the right.
+// One step: the left polynomial, which is below s^bound, becomes its remainder by the right one, of degree e, and the two are exchanged.
 fn euclid_step<F: Field>(left: &mut [F], right: &mut [F], bound: usize, e: usize)
     requires room { (length left.old ≡ length right.old) × (bound ≤ length left.old) }
     requires below { Below F.ops bound (at F.ops F.member left.old) }

@@ -1,4 +1,5 @@
 // The monic greatest common divisor of a row of generators, and the row divided by it, in a work table.
+// A number n stands beside a whole table: rows cut down to n would make each contract speak of a part of its caller's table.
 ghost use Rattle.std.specs.Prelude.{◌≡◌, ℕ, ◌*◌, ◌<◌, ◌≤◌, length, MatchOption};
 ghost use Rattle.algebra.specs.Divisors.{Divides, AllZero};
 ghost use Rattle.algebra.specs.Series.{series, Degree};
@@ -12,7 +13,7 @@ use polynomials::{degree, divide_exactly};
 use tables::cells::inverse_at;
 use tables::clear;
 use tables::rows::scale;
-use tables::sizes::{GENERATORS, WIDTH, WORK};
+use tables::sizes::{GENERATORS, MAX_COUNT, WIDTH, WORK};
 
 // Where the divided row begins in the work table, which it ends.
 pub const ROW: usize = WORK - GENERATORS;
@@ -51,7 +52,8 @@ fn make_monic<F: Field>(divisor: &mut [F]) -> Option<usize>
     Some(e)
 }
 
-// Divides the first n generators by the divisor, of degree e, which divides them. The parts of the work table are lent one by one, since only here they meet.
+// Divides the first n generators by the divisor, which is of degree e and divides each of them. The parts of the work table are lent one by
+// one, since no other function takes these together.
 fn divide_row<F: Field>(
     n: usize,
     generators: &[F],
@@ -76,7 +78,7 @@ fn divide_row<F: Field>(
     }
 }
 
-// The highest degree of the first n polynomials of a row; 0 where every one is zero.
+// The highest degree of the first n polynomials of a row; 0 where every one is zero, as `Highest` has it.
 pub fn row_degree<F: Field>(n: usize, row: &[F]) -> usize
     requires { WIDTH * n ≤ length row.now }
     ensures value { Highest F.ops n (row_in F.ops F.member row.now 0) result }
@@ -89,10 +91,10 @@ pub fn row_degree<F: Field>(n: usize, row: &[F]) -> usize
     d
 }
 
-// Writes the monic greatest common divisor of the first n generators and the row divided by it into the work table, whose other places become zero,
-// and answers their degrees; absent where every generator is zero.
+// Writes the monic greatest common divisor of the first n generators and the row divided by it into the work table, whose other places
+// become zero, and answers their degrees; absent where every generator is zero.
 pub fn divide_by_gcd<F: Field>(n: usize, generators: &[F], work: &mut [F]) -> Option<Degrees>
-    requires { (n ≤ 8) × ((length generators.now ≡ GENERATORS) × (length work.old ≡ WORK)) }
+    requires { (n ≤ MAX_COUNT) × ((length generators.now ≡ GENERATORS) × (length work.old ≡ WORK)) }
     ensures { MatchOption result (AllZero F.ops n (generator_in F.ops F.member generators.now) × Cleared F.ops F.member work.new) (λ d. DividedByGcd F.ops F.member n generators.now work.new d.divisor d.row) }
 {
     clear(work);

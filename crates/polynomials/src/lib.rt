@@ -28,9 +28,11 @@ pub fn multiply_into<F: Field>(target: &mut [F], left: &[F], right: &[F])
     }
 }
 
-// A divisor and its degree are two parameters: in a type the fact that joins them could only be kept cut down to a mere truth, and every proof would undo that.
+// A divisor and its degree are two parameters: a struct could keep the fact that joins them only as a mere truth, and each proof would have
+// to get the degree back out of it.
 
-// Takes away the multiple of a divisor of degree e by s^power that meets the coefficient of s^(power + e), and answers its ratio.
+// Takes s^power times a multiple of the divisor, of degree e, from the target, so that the coefficient of s^(power + e) becomes zero, and
+// answers the factor of that multiple. `inverse` is the inverse of the divisor's leading coefficient.
 fn cancel<F: Field>(target: &mut [F], power: usize, divisor: &[F], e: usize, inverse: F) -> F
     requires room { power + e < length target.old }
     requires degree { Degree F.ops (at F.ops F.member divisor.now) e }
@@ -42,7 +44,7 @@ fn cancel<F: Field>(target: &mut [F], power: usize, divisor: &[F], e: usize, inv
     ratio
 }
 
-// Leaves the remainder by a divisor of degree e.
+// Leaves in the dividend its remainder by a divisor of degree e.
 pub fn reduce<F: Field>(dividend: &mut [F], divisor: &[F], e: usize)
     requires { Degree F.ops (at F.ops F.member divisor.now) e }
     ensures { LeavesRemainder F.ops e (at F.ops F.member dividend.old) (at F.ops F.member divisor.now) (at F.ops F.member dividend.new) }
@@ -54,7 +56,7 @@ pub fn reduce<F: Field>(dividend: &mut [F], divisor: &[F], e: usize)
     }
 }
 
-// The same, with the quotient written into a cleared slice. The two loops share their step, and `reduce` has no place for a quotient.
+// The same, with the quotient written into a cleared slice. The two loops share their step; `reduce` has no place for a quotient.
 fn divide<F: Field>(dividend: &mut [F], divisor: &[F], e: usize, quotient: &mut [F])
     requires room { length dividend.old ≤ length quotient.old }
     requires degree { Degree F.ops (at F.ops F.member divisor.now) e }

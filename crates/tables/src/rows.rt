@@ -6,7 +6,9 @@ ghost use Rattle.tables.specs.Places.{at, Apart, Kept, poly_at};
 use crate::clear;
 use fields::field::Field;
 
-// Sets a part to zero. This call and the next two name parts by numbers, for callers that hold a whole table.
+// `clear_part`, `copy_from` and `copy` name a part by numbers. A slice's own methods do the same, but these calls are public, so they stay.
+
+// Sets a part to zero.
 pub fn clear_part<F: Field>(table: &mut [F], base: usize, width: usize)
     requires { base + width ≤ length table.old }
     ensures zero { poly_at F.ops F.member table.new base width ≡ (series F.ops).zero }

@@ -18,5 +18,5 @@ pub const COLUMNS: usize = MAX_COUNT * GENERATORS;
 // The frame table: the columns, and behind them the divisor.
 pub const FRAME: usize = COLUMNS + WIDTH;
 
-// The work table: a row as long as a product for each coefficient of the generators, and one more. What lies where in it, `frames::row` says.
+// The work table: a row as long as a product for each coefficient of the generators, and one more; `frames::row` says what lies where.
 pub const WORK: usize = PRODUCT * (GENERATORS + 1);

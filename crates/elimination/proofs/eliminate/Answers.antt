@@ -13,7 +13,7 @@ loop-q-preserved g c =
     let old : Progress f.ops f.member s.rows c.args.matrix.now c.loop-q.q s.rank s.factors.now s.pivots.now c.loop-q.places c.loop-q.matrix = rw c.loop-q.invariant.rows c.loop-q.invariant.progress in
     let next : Progress f.ops f.member s.rows c.args.matrix.now (c.loop-q.q + 1) n.self.rank n.self.factors.now n.self.pivots.now n.places n.matrix = rw (t.counted.1, t.placed)
     (progress_more f.ops f.member g.met.F.Field.laws.ring s.rows c.args.matrix.now c.loop-q.q s.rank s.factors.now s.pivots.now c.loop-q.places c.loop-q.matrix old
-    n.self.factors.now n.self.pivots.now n.matrix t.before t.behind c.take_next.result t.bound (omega (arith, c.requires.room, c.loop-q.auto, c.loop-q.invariant.rows)) t.takes) in
+    n.self.factors.now n.self.pivots.now n.matrix t.others c.take_next.result t.bound (omega (arith, c.requires.room, c.loop-q.auto, c.loop-q.invariant.rows)) t.takes) in
     record {
       rows = t.counted.0 ∙ c.loop-q.invariant.rows;
       progress = subst (λ k. Progress f.ops f.member k c.args.matrix.now (c.loop-q.q + 1) n.self.rank n.self.factors.now n.self.pivots.now n.places n.matrix) c.loop-q.invariant.rows next;

@@ -3,8 +3,8 @@ use mathlib.Core.Logic.{∥∥₁_map}
 use Rattle.tables.specs.Places.{at}
 use Rattle.elimination.specs.Steps.{column_at, entry_at, IsPivot}
 use Rattle.elimination.proofs.Taking.{taken_sum, taken_pivotal, taken_steps, taken_reduces}
-use Rattle.elimination.proofs.Tables.{row_room}
-use Rattle.elimination.proofs.Valid.{rank_few, the_steps}
+use Rattle.elimination.proofs.Tables.{columns_same}
+use Rattle.elimination.proofs.Valid.{rank_few, the_steps, steps_kept}
 use Rattle.elimination.proofs.Steps.take_column.Goals as goal
 
 pub returns-in_default-clause-takes : goal.returns-in_default-clause-takes
@@ -33,18 +33,28 @@ returns-clause-takes g c =
     let q : IsPivot f.ops s.rows s.rank (at f.ops f.member now) pivot.row (f.member pivot.inverse) =
     subst (λ n. IsPivot f.ops n s.rank (at f.ops f.member now) pivot.row (f.member pivot.inverse)) width c.in-Some.ensures in
     let less : s.rank < length s.pivots.now = omega (arith, q.low, q.within, s.room) in
-    let r = c.record in
-    rw (r.ensures.kept.1.0, r.ensures.kept.1.1) record {
+    let r = c.record_step in
+    record {
       valid = taken_steps f.ops f.member met.laws s.rows s.rank s.factors.now s.pivots.now c.args.column.now now c.requires c.bring.ensures pivot.row pivot.inverse q
-          r.new.self.factors.now r.ensures.here r.ensures.others less (the_steps f.ops s.rows s.rank e (entry_at s.pivots.now) s.valid met.laws met.invertible);
+          r.new.factors r.ensures.here r.ensures.others less (the_steps f.ops s.rows s.rank e (entry_at s.pivots.now) s.valid met.laws met.invertible);
       bound = omega (arith, q.low, q.within);
       judged = taken_pivotal f.ops f.member met.laws s.rows s.rank s.factors.now s.pivots.now c.args.column.now now c.requires c.bring.ensures pivot.row pivot.inverse q;
       reduces = taken_reduces f.ops f.member met.laws s.rows s.rank s.factors.now s.pivots.now c.args.column.now now c.requires c.bring.ensures pivot.row pivot.inverse q
-          r.new.self.factors.now r.ensures.here r.ensures.others less;
+          r.new.factors r.ensures.here r.ensures.others less;
     }
 
+-- before the pivot is noted, the steps are those that were there
 pub invariant_of-self-clause-valid : goal.invariant_of-self-clause-valid
 invariant_of-self-clause-valid g c =
+    let f = g.F.Field in
+    let s = c.args.self.now in
+    let after = c.record_step.new.factors in
+    steps_kept f.ops s.rows s.rank (column_at f.ops f.member s.rows s.factors.now) (column_at f.ops f.member s.rows after) (entry_at s.pivots.now)
+    (columns_same f.ops f.member s.rows s.rank s.factors.now after c.record_step.ensures.others)
+    s.valid
+
+pub invariant_of-self-2-clause-valid : goal.invariant_of-self-2-clause-valid
+invariant_of-self-2-clause-valid g c =
     let f = g.F.Field in
     let met = g.met.F.Field in
     let s = c.args.self.now in
@@ -54,15 +64,7 @@ invariant_of-self-clause-valid g c =
     let q : IsPivot f.ops s.rows s.rank (at f.ops f.member now) pivot.row (f.member pivot.inverse) =
     subst (λ n. IsPivot f.ops n s.rank (at f.ops f.member now) pivot.row (f.member pivot.inverse)) width c.in-Some.ensures in
     let less : s.rank < length s.pivots.now = omega (arith, q.low, q.within, s.room) in
-    let r = c.record in
-    rw (r.ensures.kept.0, r.ensures.kept.1.0, r.ensures.kept.1.1, add-one)
+    let r = c.record_step in
+    rw add-one
     (∥∥₁_map s.valid (taken_steps f.ops f.member met.laws s.rows s.rank s.factors.now s.pivots.now c.args.column.now now c.requires c.bring.ensures pivot.row pivot.inverse q
-    r.new.self.factors.now r.ensures.here r.ensures.others less))
-
-pub record-requires : goal.record-requires
-record-requires g c =
-    let s = c.args.self.now in
-    let width : length c.bring.new.column ≡ s.rows = omega (arith, c.requires, c.bring.auto.column) in
-    let q = c.in-Some.ensures in
-    let less : s.rank < s.rows = omega (arith, q.low, q.within, width) in
-    record { room = (omega (arith, s.room, row_room s.rows s.rank s.rows less), (width, omega (arith, q.within, width))) }
+    r.new.factors r.ensures.here r.ensures.others less))

@@ -1,6 +1,7 @@
-use Rattle.std.proofs.Common.{◌≡◌, ◌*◌, length, subst₂, arith, length-drop, length-take}
+use Rattle.std.proofs.Common.{◌≡◌, ◌+◌, ◌*◌, length, subst₂, arith, length-drop, length-take}
+use Rattle.tables.proofs.Slices.{kept_range}
 use Rattle.elimination.specs.Steps.{column_at, entry_at, Takes}
-use Rattle.elimination.proofs.Tables.{part_is, replaced_here, replaced_before, replaced_behind}
+use Rattle.elimination.proofs.Tables.{part_is, replaced_here}
 use Rattle.elimination.proofs.Steps.take_column_of.Goals as goal
 
 pub returns : goal.returns
@@ -16,6 +17,5 @@ returns g c =
           (replaced_here f.ops f.member base s.rows c.args.matrix.now after.column c.requires long)
           c.take_column.ensures.takes;
       counted = c.take_column.ensures.counted;
-      before = replaced_before f.ops f.member base s.rows c.args.matrix.now after.column c.requires long;
-      behind = replaced_behind f.ops f.member base s.rows c.args.matrix.now after.column c.requires long;
+      others = kept_range f.ops f.member base (base + s.rows) s.rows c.args.matrix.now after.column (omega arith) (omega arith) c.take_column.auto.column;
     }
