@@ -1,11 +1,10 @@
 -- Columns in a table, changed row by row.
-use Rattle.std.proofs.Common.{◌≡◌, ℕ, ◌+◌, ◌<◌, ◌≤◌, List, [], ◌∷◌, length, get_or, set, sym, refl, ap, ◌∙◌, subst, ap₂, le_refl, arith, length-set}
+use Rattle.std.proofs.Common.{◌≡◌, ℕ, ◌<◌, List, length, get_or, set, sym, ap, ◌∙◌, ap₂, length-set}
 use mathlib.Core.Path.{fun_ext}
-use native.Mathlib.Decide.{ℕ_discrete, dec_lt}
-use Rattle.algebra.specs.Rings.{RingOps, RingLaws}
-use Rattle.algebra.proofs.Solver.{solve, var, 𝟎, ◌⊞◌, ◌⊠◌}
+use native.Mathlib.Decide.{ℕ_discrete}
+use Rattle.algebra.specs.Rings.{RingOps}
 use Rattle.tables.specs.Places.{at}
-use Rattle.tables.proofs.Places.{at_read, at_past, at_set_same, at_set_other}
+use Rattle.tables.proofs.Places.{at_read, at_set_same, at_set_other}
 use Rattle.elimination.specs.Steps.{write, step}
 use Rattle.elimination.proofs.StepMaps.{write_same, write_other}
 

@@ -1,6 +1,6 @@
--- Columns taken one after the other. Main results: eliminated_none, eliminated_pivotal, eliminated_spanned, eliminated_skipped (what is known after no
--- column, and after one column more that is pivotal, is not, or is known not to be), sum_of_column,
--- place_or_none, relations_pivotal, relations_spanned.
+-- Columns taken one after the other. Main results: eliminated_none, eliminated_pivotal, eliminated_spanned, eliminated_skipped (what is
+-- known after no column, and after one column more that is pivotal, is not, or is known not to be), sum_of_column, place_or_none,
+-- relations_pivotal, relations_spanned.
 use Rattle.std.proofs.Common.{◌≡◌, ℕ, zero, suc, ◌<◌, ◌≤◌, true, false, ◌⊎◌, sym, ap, ◌∙◌, subst, ap₂, inl, inr, suc-le-suc, zero-le, le_refl, not-suc-le-zero, arith}
 use native.Mathlib.Decide.{ℕ_discrete, dec_lt}
 use Rattle.algebra.specs.Rings.{RingOps, RingLaws}

@@ -1,5 +1,5 @@
--- What the steps say of the columns that they turn into unit vectors. Main results: judged_sum (a column with no pivot is their sum), judged_pivotal
--- (one with a pivot is no such sum), independent_of_steps, steps_more and reduces_more (one step more).
+-- What the steps say of the columns that they turn into unit vectors. Main results: judged_sum (a column with no pivot is their sum),
+-- judged_pivotal (one with a pivot is no such sum), independent_of_steps, steps_more and reduces_more (one step more).
 use Rattle.std.proofs.Common.{◌≡◌, ℕ, suc, ◌<◌, ◌≤◌, sym, refl, ap, ◌∙◌, subst, ap₂, subst₂, arith}
 use mathlib.Core.Path.{fun_ext}
 use native.Mathlib.Decide.{ℕ_discrete, dec_lt}

@@ -1,5 +1,5 @@
--- Steps of elimination as maps on vectors. Main results: reduced_total (relations among vectors are kept), reduced_kernel (only zero is sent to
--- zero), step_keeps (vectors that are zero from row t on stay), step_of_pivot (the new pivotal column becomes a unit vector).
+-- Steps of elimination as maps on vectors. Main results: reduced_total (relations among vectors are kept), reduced_kernel (only zero is
+-- sent to zero), step_keeps (vectors that are zero from row t on stay), step_of_pivot (the new pivotal column becomes a unit vector).
 use Rattle.std.proofs.Common.{◌≡◌, ℕ, zero, suc, ◌<◌, ◌≤◌, [], ◌∷◌, sym, refl, ap, ◌∙◌, subst, ap₂, le_refl, le_of_suc-le-suc, not-suc-le-zero, arith}
 use mathlib.Core.Path.{fun_ext}
 use native.Mathlib.Decide.{ℕ_discrete, dec_lt}

@@ -1,4 +1,4 @@
--- Steps that are known to be some. Main results: step_rows (where their pivots stand), rank_few, the_steps (the steps themselves, in a field).
+-- Steps that are known to be some. Main results: step_rows (where their pivots stand), rank_few, the_steps (all of them, in a field).
 use Rattle.std.proofs.Common.{◌≡◌, ℕ, ◌<◌, ◌≤◌, sym, ap, ◌∙◌, subst}
 use mathlib.Core.Logic.{∥∥₁_elim, ∥∥₁_map}
 use Rattle.std.specs.Coded.{×_prop, le_prop}

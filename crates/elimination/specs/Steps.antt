@@ -1,5 +1,5 @@
--- Elimination on vectors: one step, the steps one after the other, and what taking a column does. The clauses of every function of the crate cite it.
--- Vectors are functions of the row.
+-- Elimination on vectors: one step, the steps one after the other, and what taking a column does. The clauses of every function of the
+-- crate cite it. Vectors are functions of the row.
 use Rattle.std.specs.Prelude.{◌≡◌, ℕ, zero, suc, ◌+◌, ◌*◌, ◌<◌, ◌≤◌, Bool, true, false, List, slice_index}
 use Rattle.algebra.specs.Rings.{RingOps}
 use Rattle.algebra.specs.Series.{total}
@@ -23,8 +23,8 @@ front o (suc n) v (suc r) = front o n (λ i. v (suc i)) r
 abbrev pub unit_vector : {M : Type 0} → RingOps M → ℕ → ℕ → M
 unit_vector o t = write t o.one (λ r. o.zero)
 
--- Step t with pivot row p on a vector u: entries t and p are exchanged, entry t is multiplied by e p, and e r times the product is taken from
--- every other entry r.
+-- Step t with pivot row p on a vector u: entries t and p are exchanged, entry t is multiplied by e p, and e r times the product is taken
+-- from every other entry r.
 abbrev pub step : {M : Type 0} → RingOps M → (ℕ → M) → ℕ → ℕ → (ℕ → M) → ℕ → M
 step o e t p u = write t (o.product (e p) (u p)) (write p (u t) (λ r. o.sum (u r) (o.product (e r) (o.negative (o.product (e p) (u p))))))
 
@@ -73,7 +73,7 @@ abbrev pub pivots_after : {M : Type 0} → ℕ → (ℕ → ℕ → M) → (ℕ 
 pivots_after rank V c true = write rank c V
 pivots_after rank V c false = V
 
--- the column c is the sum of the pivot columns V 0 .. V (rank - 1) times the entries of the reduced column E, which is zero from row rank on
+-- c is the sum of the pivot columns V 0 .. V (rank - 1) times the entries of the reduced column E, which is zero from row rank on
 pub record IsSum {M : Type 0} (o : RingOps M) (rows rank : ℕ) (V : ℕ → ℕ → M) (c E : ℕ → M) : Type 0 where
   pub is : (r : ℕ) → r < rows → c r ≡ total o rank (λ t. o.product (E t) (V t r))
   pub zeros : (r : ℕ) → rank ≤ r → E r ≡ o.zero
@@ -83,8 +83,8 @@ abbrev pub Judged : {M : Type 0} → RingOps M → ℕ → ℕ → (ℕ → ℕ 
 Judged o rows rank V c E true = Spanned o All rank rows V c → ⊥
 Judged o rows rank V c E false = IsSum o rows rank V c E
 
--- A column c is taken after so many steps e, p, and E is what is left in its place; f, q are the steps afterwards, and the answer is whether c is
--- pivotal, for any columns V that the steps turned into the unit vectors.
+-- A column c is taken after so many steps e, p, and E is what is left in its place; f, q are the steps afterwards, and the answer is
+-- whether c is pivotal, for any columns V that the steps turned into the unit vectors.
 pub record Takes {M : Type 0} (o : RingOps M) (rows rank : ℕ) (e : ℕ → ℕ → M) (p : ℕ → ℕ) (c : ℕ → M) (f : ℕ → ℕ → M) (q : ℕ → ℕ) (E : ℕ → M) (pivotal : Bool) : Type 0 where
   pub valid : AreSteps o rows (rank_after rank pivotal) f q
   pub bound : rank_after rank pivotal ≤ rows

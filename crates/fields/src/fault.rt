@@ -32,7 +32,7 @@ impl Layer {
     }
 }
 
-// What every refusal carries. Questions and places stay numbers, with 0 for no place: refusals are printed so, and docs/refusals.md lists them.
+// What every refusal carries. Question and place stay numbers, 0 for no place: refusals are printed so, and docs/refusals.md lists them.
 pub trait Refusal {
     ghost numbered: { Self → ℕ };
 

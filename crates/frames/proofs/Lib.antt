@@ -1,3 +1,4 @@
 pub mod Common
+pub mod RowDegree
 pub mod RowSteps
 pub mod Steps

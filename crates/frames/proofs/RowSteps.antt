@@ -1,4 +1,5 @@
--- The row, one generator at a time, and where it stands in the work table. Main results: gcd_of_more, monic_like, divide_step, highest_step, divided_by_gcd.
+-- The row, one generator at a time, and where it stands in the work table. Main results: gcd_of_more, monic_like, divide_step,
+-- highest_step, divided_by_gcd.
 use Rattle.std.proofs.Common.{◌≡◌, ℕ, suc, ◌+◌, ◌-◌, ◌*◌, ◌<◌, ◌≤◌, max, List, ◌++◌, length, length-append, length-drop, length-take-le, take, drop, Some, None, Option, sym, refl, ap, ap₂, ◌∙◌, subst, inl, inr, not-suc-le-zero, arith, below_more}
 use native.Mathlib.Decide.{dec_lt}
 use native.Mathlib.Nat.{le-max_right}
@@ -293,7 +294,3 @@ highest_range o member xs base end n d room high =
     ∙ ap (at o member xs) (let e : base + (0 + 17 * i + k) ≡ base + 17 * i + k = omega arith in e)
     ∙ sym (P.poly_at_in o member xs (base + 17 * i) 17 k h)))
     high
-
-pub max_bound : {R : Type 0} (o : RingOps R) (f : ℕ → R) (width d r : ℕ) (found : Option ℕ) → d ≤ 16 → width ≡ 17 → DegreeOf o width f found → r ≡ max d (unwrap_or found 0) → r ≤ 16
-max_bound o f width d r None h w degree is = omega arith
-max_bound o f width d r (Some k) h w degree is = let l = degree.0 in omega arith

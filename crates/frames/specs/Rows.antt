@@ -1,4 +1,5 @@
--- A row of generators, its greatest common divisor and the row divided by it, where they stand in the tables. The clauses of `divide_by_gcd` cite it, and those of frames the columns.
+-- A row of generators, its greatest common divisor and the row divided by it, where they stand in the tables. The clauses of
+-- `divide_by_gcd` cite it, and those of frames the columns.
 use Rattle.std.specs.Prelude.{◌≡◌, ℕ, ◌+◌, ◌*◌, ◌⊎◌, List}
 use Rattle.algebra.specs.Rings.{RingOps}
 use Rattle.algebra.specs.Divisors.{MonicGcd, DividedRow, VectorDegree, AllZero}

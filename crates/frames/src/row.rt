@@ -84,11 +84,11 @@ pub fn row_degree<F: Field>(n: usize, row: &[F]) -> usize
     ensures value { Highest F.ops n (row_in F.ops F.member row.now 0) result }
     ensures bound { result ≤ 16 }
 {
-    let mut d = 0;
-    for part in row[..WIDTH * n].chunks_exact(WIDTH) {
-        d = d.max(degree(part).unwrap_or(0));
-    }
-    d
+    let parts = row[..WIDTH * n].chunks_exact(WIDTH);
+    parts
+        .map(|part| degree(part).unwrap_or(0))
+        .max()
+        .unwrap_or(0)
 }
 
 // Writes the monic greatest common divisor of the first n generators and the row divided by it into the work table, whose other places

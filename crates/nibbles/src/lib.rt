@@ -143,7 +143,7 @@ impl Field for Nibble {
         low_bits(product_number(u16::from(self), u16::from(other)))
     }
 
-    // This and `element` stand in tones too: four lines each on the field's own numbers, all of which a shared form would have to be handed.
+    // This and `element` stand in tones too: four lines on each field's own numbers, which a shared form would have to be handed.
     fn inverse(self) -> Option<Nibble> {
         match self {
             Nibble::N0 => None,

@@ -1,4 +1,5 @@
--- The loops of long division and of products. Main results: reduced_step and divided_step (one turn), reduced_all, multiplied_step, exactly_divided.
+-- The loops of long division and of products. Main results: reduced_step and divided_step (one turn), reduced_all, multiplied_step,
+-- exactly_divided.
 use Rattle.std.proofs.Common.{◌≡◌, ℕ, suc, ◌+◌, ◌-◌, ◌<◌, ◌≤◌, List, length, sym, refl, ap, ◌∙◌, subst, ap₂, arith}
 use mathlib.Core.Path.{fun_ext}
 use native.Mathlib.Decide.{dec_lt, ℕ_discrete}

@@ -1,5 +1,5 @@
--- Long division and products, one step at a time. Main results: top_cancels and step_is (a multiple of the divisor is taken away), product_more
--- (one coefficient of a factor more).
+-- Long division and products, one step at a time. Main results: top_cancels and step_is (a multiple of the divisor is taken away),
+-- product_more (one coefficient of a factor more).
 use Rattle.std.proofs.Common.{◌≡◌, ℕ, zero, suc, ◌+◌ as ◌plus◌, [], ◌∷◌, sym, refl, ap, ◌∙◌, ap₂, arith}
 use mathlib.Core.Path.{fun_ext}
 use Rattle.algebra.specs.Rings.{RingOps, RingLaws}

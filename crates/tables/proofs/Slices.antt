@@ -1,5 +1,5 @@
--- Slices of a table. Main results: part_is (the polynomial of a part is that of the slice), put_part and kept_put (a part written back), and what
--- was written place by place (poly_written, added).
+-- Slices of a table. Main results: part_is (the polynomial of a part is that of the slice), put_part and kept_put (a part written back),
+-- and what was written place by place (written_more, scaled_is, added_is).
 use Rattle.std.proofs.Common.{◌≡◌, ℕ, zero, suc, ◌+◌, ◌-◌, ◌<◌, ◌≤◌, List, [], ◌∷◌, ◌++◌, length, take, drop, refl, sym, ap, ap₂, ◌∙◌, not-suc-le-zero, arith, below_more, append_assoc}
 use Rattle.std.specs.List.{between, copy_within}
 use Rattle.std.proofs.lemmas.List.Edits.{length-between}

@@ -168,7 +168,7 @@ impl Field for Tone {
         residue(u16::from(self) * u16::from(other))
     }
 
-    // This and `element` stand in nibbles too: four lines each on the field's own numbers, all of which a shared form would have to be handed.
+    // This and `element` stand in nibbles too: four lines on each field's own numbers, which a shared form would have to be handed.
     fn inverse(self) -> Option<Tone> {
         match self {
             Tone::T0 => None,
