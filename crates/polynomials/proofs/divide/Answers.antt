@@ -1,13 +1,12 @@
 use Rattle.std.proofs.Common.{◌≡◌, ◌+◌, ◌-◌, ◌∙◌, length, sym, ap, subst, arith, ℕ}
-use Rattle.algebra.proofs.Bounds.{below_mono}
 use Rattle.tables.specs.Places.{at}
 use Rattle.tables.proofs.Places.{at_set_other}
 use Rattle.tables.proofs.Slices.{at_below}
 use Rattle.polynomials.proofs.Divisions.{degree_within, Divided, divided_none, divided_step, at_set_zero}
 use Rattle.polynomials.proofs.divide.Goals as goal
 
-pub inverse_at-inverse-requires : goal.inverse_at-inverse-requires
-inverse_at-inverse-requires g c = let f = g.F.Field in record { room = degree_within f.ops g.met.F.Field.laws.ring f.member c.args.divisor.now c.args.e c.requires.degree; nonzero = c.requires.degree.top }
+pub inverse_at-inverse-requires-clause-room : goal.inverse_at-inverse-requires-clause-room
+inverse_at-inverse-requires-clause-room g c = let f = g.F.Field in degree_within f.ops g.met.F.Field.laws.ring f.member c.args.divisor.now c.args.e c.requires.degree
 
 pub loop-k-init : goal.loop-k-init
 loop-k-init g c =
@@ -35,12 +34,4 @@ loop-k-preserved g c =
           (c.cancel.ensures.ratio ∙ ap (λ i. f.ops.product (f.member c.inverse_at-inverse.result) (at f.ops f.member c.loop-k.dividend i)) place)
           c.cancel.ensures.rest c.loop-k.invariant.divided);
       unwritten = λ i h. at_set_other f.ops f.member q j i c.cancel.result (λ e. omega (arith, e, h)) ∙ c.loop-k.invariant.unwritten i (omega (arith, h));
-    }
-
-pub returns : goal.returns
-returns g c =
-    let f = g.F.Field in
-    record {
-      division = c.loop-k.invariant.divided.0;
-      small = below_mono f.ops g.met.F.Field.laws.ring c.loop-k.k c.args.e (at f.ops f.member c.loop-k.dividend) (omega arith) c.loop-k.invariant.divided.1;
     }

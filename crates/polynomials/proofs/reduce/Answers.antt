@@ -4,8 +4,8 @@ use Rattle.tables.proofs.Slices.{at_below}
 use Rattle.polynomials.proofs.Divisions.{degree_within, reduced_none, reduced_step, reduced_all}
 use Rattle.polynomials.proofs.reduce.Goals as goal
 
-pub inverse_at-inverse-requires : goal.inverse_at-inverse-requires
-inverse_at-inverse-requires g c = let f = g.F.Field in record { room = degree_within f.ops g.met.F.Field.laws.ring f.member c.args.divisor.now c.args.e c.requires; nonzero = c.requires.top }
+pub inverse_at-inverse-requires-clause-room : goal.inverse_at-inverse-requires-clause-room
+inverse_at-inverse-requires-clause-room g c = let f = g.F.Field in degree_within f.ops g.met.F.Field.laws.ring f.member c.args.divisor.now c.args.e c.requires
 
 pub loop-k-init : goal.loop-k-init
 loop-k-init g c =

@@ -1,10 +1,7 @@
-use Rattle.std.proofs.Common.{◌≡◌, ⊎_elim, arith}
+use Rattle.std.proofs.Common.{◌≡◌}
 use Rattle.nibbles.specs.NibblesLemmas.{nibble_numbering}
-use Rattle.towers.proofs.Worked.{byte_numbering, tone_pair_numbering, all_hold, one_product, accepted, answered}
+use Rattle.towers.proofs.Worked.{byte_numbering, tone_pair_numbering, all_hold, one_product, answered}
 use Rattle.towers.proofs.worked_products.Goals as goal
-
-pub unwrap-requires-6 : goal.unwrap-requires-6
-unwrap-requires-6 c = accepted c.product_of_codes-6.result _ _ c.product_of_codes-6.ensures (λ _. ⊎_elim (λ h. omega arith) (λ h. omega arith))
 
 pub returns : goal.returns
 returns c =

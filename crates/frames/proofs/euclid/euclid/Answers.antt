@@ -18,15 +18,11 @@ loop-e-init g c =
       right_room = omega arith;
     }
 
-pub euclid_step-requires : goal.euclid_step-requires
-euclid_step-requires g c =
+pub euclid_step-requires-clause-degree : goal.euclid_step-requires-clause-degree
+euclid_step-requires-clause-degree g c =
     let f = g.F.Field in
     let now = c.loop-e.right in
-    record {
-      room = (omega arith, c.loop-e.invariant.left_room);
-      below = c.loop-e.invariant.upper;
-      degree = subst (λ (p : ℕ → f.Member). Degree f.ops p c.in-Some.e) (at_cut f.ops f.member now c.loop-e.lower c.loop-e.invariant.lower) c.in-Some.ensures.1;
-    }
+    subst (λ (p : ℕ → f.Member). Degree f.ops p c.in-Some.e) (at_cut f.ops f.member now c.loop-e.lower c.loop-e.invariant.lower) c.in-Some.ensures.1
 
 pub loop-e-preserved : goal.loop-e-preserved
 loop-e-preserved g c =

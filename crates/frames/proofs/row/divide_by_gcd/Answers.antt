@@ -1,28 +1,15 @@
-use Rattle.std.proofs.Common.{◌++◌, Option, sym, ap, ◌∙◌, subst, arith, ℕ}
+use Rattle.std.proofs.Common.{◌++◌, Option, sym, ap, ◌∙◌, subst, ℕ}
 use mathlib.Core.Path.{fun_ext}
 use Rattle.std.specs.Option.{MatchOption}
 use Rattle.tables.specs.Places.{at, Cleared}
 use Rattle.algebra.specs.Divisors.{AllZero}
 use Rattle.frames.specs.declared.row.Degrees.{Degrees}
 use Rattle.frames.specs.Rows.{generator_in, DividedByGcd}
-use Rattle.frames.proofs.RowSteps.{parts_of, row_of_zero, monic_divides, monic_degree, placed_gcd, placed_row, placed_rest, placed_zero, divided_by_gcd}
+use Rattle.frames.proofs.RowSteps.{parts_of, row_of_zero, monic_divides, placed_gcd, placed_row, placed_rest, placed_zero, divided_by_gcd}
 use Rattle.frames.proofs.row.divide_by_gcd.Goals as goal
 
-pub gather-requires : goal.gather-requires
-gather-requires g c =
-    let f = g.F.Field in
-    let tables = c.split_at_mut-tables in
-    let front = c.split_at_mut-front in
-    let spare = c.split_at_mut-spare in
-    let parts = parts_of f.ops g.met.F.Field.laws.ring f.member c.clear.new.table tables.result.0.now tables.result.1.now front.result.0.now front.result.1.now spare.result.0.now spare.result.1.now
-    c.clear.ensures (c.clear.auto.table ∙ c.requires.1.1) tables.ensures.front tables.ensures.back front.ensures.front front.ensures.back spare.ensures.front spare.ensures.back in
-    record {
-      room = (omega arith, (parts.spare_long, parts.divisor_long));
-      cleared = (fun_ext parts.spare_zero, fun_ext parts.divisor_zero);
-    }
-
-pub divide_row-requires : goal.divide_row-requires
-divide_row-requires g c =
+pub gather-requires-clause-cleared : goal.gather-requires-clause-cleared
+gather-requires-clause-cleared g c =
     let f = g.F.Field in
     let L = g.met.F.Field.laws.ring in
     let tables = c.split_at_mut-tables in
@@ -30,16 +17,24 @@ divide_row-requires g c =
     let spare = c.split_at_mut-spare in
     let parts = parts_of f.ops L f.member c.clear.new.table tables.result.0.now tables.result.1.now front.result.0.now front.result.1.now spare.result.0.now spare.result.1.now
     c.clear.ensures (c.clear.auto.table ∙ c.requires.1.1) tables.ensures.front tables.ensures.back front.ensures.front front.ensures.back spare.ensures.front spare.ensures.back in
-    let row_long = parts.row_long in
-    let like = c.in_ok-e.ensures in
-    let before = at f.ops f.member c.gather.new.divisor in
-    let after = at f.ops f.member c.make_monic.new.divisor in
-    record {
-      room = (omega arith, (c.gather.auto.spare ∙ parts.spare_long, omega arith));
-      degree = monic_degree f.ops g.met.F.Field.laws before after c.in_ok-e.e like;
-      divides = monic_divides f.ops L c.args.n c.in_ok-e.e (generator_in f.ops f.member c.args.generators.now) before after c.gather.ensures.divisors like;
-      cleared = (c.gather.ensures.rest, parts.row_zero);
-    }
+    (fun_ext parts.spare_zero, fun_ext parts.divisor_zero)
+
+pub divide_row-requires-clause-divides : goal.divide_row-requires-clause-divides
+divide_row-requires-clause-divides g c =
+    let f = g.F.Field in
+    monic_divides f.ops g.met.F.Field.laws.ring c.args.n c.in_ok-e.e (generator_in f.ops f.member c.args.generators.now) (at f.ops f.member c.gather.new.divisor) (at f.ops f.member c.make_monic.new.divisor)
+    c.gather.ensures.divisors c.in_ok-e.ensures
+
+pub divide_row-requires-clause-cleared : goal.divide_row-requires-clause-cleared
+divide_row-requires-clause-cleared g c =
+    let f = g.F.Field in
+    let L = g.met.F.Field.laws.ring in
+    let tables = c.split_at_mut-tables in
+    let front = c.split_at_mut-front in
+    let spare = c.split_at_mut-spare in
+    let parts = parts_of f.ops L f.member c.clear.new.table tables.result.0.now tables.result.1.now front.result.0.now front.result.1.now spare.result.0.now spare.result.1.now
+    c.clear.ensures (c.clear.auto.table ∙ c.requires.1.1) tables.ensures.front tables.ensures.back front.ensures.front front.ensures.back spare.ensures.front spare.ensures.back in
+    (c.gather.ensures.rest, parts.row_zero)
 
 pub returns-in_err-e : goal.returns-in_err-e
 returns-in_err-e g c =

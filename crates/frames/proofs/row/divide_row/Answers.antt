@@ -1,8 +1,6 @@
 use Rattle.std.proofs.Common.{◌≡◌, ◌<◌, ◌*◌, ◌+◌, ◌-◌, ℕ, take, drop, length, sym, ap, ◌∙◌, subst, arith}
 use Rattle.std.specs.Iterator.Adapters.{enumerate_source, enumerate_count}
-use Rattle.std.specs.List.{between}
 use Rattle.std.specs.Slice.Iter.{chunks_exact_rest, chunks_exact_size}
-use Rattle.std.proofs.lemmas.List.Edits.{length-between}
 use borrow.Rule.Slice.PartMut.{put_mid}
 use Rattle.algebra.specs.Divisors.{Divides}
 use Rattle.tables.specs.Places.{at}
@@ -26,27 +24,27 @@ loop-i-init g c =
       spare = c.requires.cleared.0;
     }
 
-pub divide_exactly-requires : goal.divide_exactly-requires
-divide_exactly-requires g c =
+pub divide_exactly-requires-clause-divides : goal.divide_exactly-requires-clause-divides
+divide_exactly-requires-clause-divides g c =
     let f = g.F.Field in
-    let L = g.met.F.Field.laws.ring in
     let generators = c.args.generators.now in
-    let row = c.loop-i.row in
     let steps = c.in-Some.ensures.steps in
     let k = enumerate_count c.loop-i.i-iterator in
-    let i = c.in-Some.i in
-    let is : i ≡ k = steps.1 in
-    let next = chunk_next f.ops L f.member generators (chunks_exact_rest (enumerate_source c.loop-i.i-iterator)) c.in-Some.generator.now (chunks_exact_rest (enumerate_source c.next.new.self)) c.args.n k c.requires.room.0 c.loop-i.invariant.left steps.0.1.0 (steps.0.1.1 ∙ c.loop-i.invariant.size) in
+    let is : c.in-Some.i ≡ k = steps.1 in
+    let next = chunk_next f.ops g.met.F.Field.laws.ring f.member generators (chunks_exact_rest (enumerate_source c.loop-i.i-iterator)) c.in-Some.generator.now (chunks_exact_rest (enumerate_source c.next.new.self)) c.args.n k c.requires.room.0 c.loop-i.invariant.left steps.0.1.0 (steps.0.1.1 ∙ c.loop-i.invariant.size) in
     let few : k < c.args.n = next.0 in
-    let copied : at f.ops f.member c.copy_from_slice.new.self ≡ generator_in f.ops f.member generators i =
+    let copied : at f.ops f.member c.copy_from_slice.new.self ≡ generator_in f.ops f.member generators c.in-Some.i =
     ap (at f.ops f.member) c.copy_from_slice.ensures.after ∙ next.2 ∙ ap (generator_in f.ops f.member generators) (sym is) in
-    let size : length (between (17 * i) (17 * i + 17) row) ≡ 17 * i + 17 - 17 * i = length-between row (17 * i) (17 * i + 17) (omega arith) in
-    record {
-      room = omega arith;
-      degree = c.requires.degree;
-      divides = subst (Divides f.ops (at f.ops f.member c.args.divisor.now)) (sym copied) (c.requires.divides i (omega arith));
-      cleared = range_is f.ops f.member row (17 * i) (17 * i + 17) 17 (omega arith) ∙ zero_part f.ops L f.member row (17 * i) 17 (λ j h. c.loop-i.invariant.divided.1 (17 * i + j) (omega arith));
-    }
+    subst (Divides f.ops (at f.ops f.member c.args.divisor.now)) (sym copied) (c.requires.divides c.in-Some.i (omega arith))
+
+pub divide_exactly-requires-clause-cleared : goal.divide_exactly-requires-clause-cleared
+divide_exactly-requires-clause-cleared g c =
+    let f = g.F.Field in
+    let row = c.loop-i.row in
+    let i = c.in-Some.i in
+    let is : i ≡ enumerate_count c.loop-i.i-iterator = c.in-Some.ensures.steps.1 in
+    range_is f.ops f.member row (17 * i) (17 * i + 17) 17 (omega arith)
+    ∙ zero_part f.ops g.met.F.Field.laws.ring f.member row (17 * i) 17 (λ j h. c.loop-i.invariant.divided.1 (17 * i + j) (omega arith))
 
 pub loop-i-preserved : goal.loop-i-preserved
 loop-i-preserved g c =
@@ -79,8 +77,8 @@ loop-i-preserved g c =
       spare = c.divide_exactly.ensures.cleared;
     }
 
-pub returns : goal.returns
-returns g c =
+pub returns-clause-row : goal.returns-clause-row
+returns-clause-row g c =
     let f = g.F.Field in
     let L = g.met.F.Field.laws.ring in
     let generators = c.args.generators.now in
@@ -88,5 +86,4 @@ returns g c =
     let i = enumerate_count c.loop-i.i-iterator in
     let short : length rest < 17 = omega (arith, c.in-None.ensures.steps.0.1.0, c.loop-i.invariant.size) in
     let all : i ≡ c.args.n = chunk_last f.ops L f.member generators rest c.args.n i c.requires.room.0 c.loop-i.invariant.left short c.loop-i.invariant.few in
-    let inv = subst (λ (i : ℕ). DividedFirst f.ops L f.member i (generator_in f.ops f.member generators) (at f.ops f.member c.args.divisor.now) c.loop-i.row) all c.loop-i.invariant.divided in
-    record { row = inv.0; behind = inv.1; rest = c.loop-i.invariant.spare }
+    (subst (λ (i : ℕ). DividedFirst f.ops L f.member i (generator_in f.ops f.member generators) (at f.ops f.member c.args.divisor.now) c.loop-i.row) all c.loop-i.invariant.divided).0

@@ -40,15 +40,12 @@ loop-generator-preserved g c =
       spare = c.euclid.ensures.cleared;
     }
 
-pub returns : goal.returns
-returns g c =
+pub returns-clause-divisors : goal.returns-clause-divisors
+returns-clause-divisors g c =
     let f = g.F.Field in
     let generators = c.args.generators.now in
     let rest = chunks_exact_rest c.loop-generator.generator-iterator in
     let i = length c.loop-generator.yielded in
     let short : length rest < 17 = omega (arith, c.in-None.ensures.steps.1.0, c.loop-generator.invariant.size) in
     let all : i ≡ c.args.n = chunk_last f.ops g.met.F.Field.laws.ring f.member generators rest c.args.n i c.requires.room.0 c.loop-generator.invariant.left short c.loop-generator.invariant.few in
-    record {
-      divisors = subst (λ (k : ℕ). GcdOfFirst f.ops k (generator_in f.ops f.member generators) (at f.ops f.member c.loop-generator.divisor)) all c.loop-generator.invariant.divisors;
-      rest = c.loop-generator.invariant.spare;
-    }
+    subst (λ (k : ℕ). GcdOfFirst f.ops k (generator_in f.ops f.member generators) (at f.ops f.member c.loop-generator.divisor)) all c.loop-generator.invariant.divisors

@@ -5,9 +5,6 @@ use Rattle.nibbles.specs.Tables.{inverses}
 use Rattle.nibbles.specs.NibblesLemmas.{inverse_nibble}
 use Rattle.nibbles.proofs.NibbleField.inverse.Goals as goal
 
-pub returns-in-N0 : goal.returns-in-N0
-returns-in-N0 c = c.in-N0.is
-
 pub returns-in_default : goal.returns-in_default
 returns-in_default c =
     ap (nibble_ops.product c.args.self)

@@ -5,9 +5,6 @@ use Rattle.tones.specs.Tones.{number_of, tone_of, inverses}
 use Rattle.tones.specs.TonesLemmas.{inverse_tone}
 use Rattle.tones.proofs.ToneField.inverse.Goals as goal
 
-pub returns-in-T0 : goal.returns-in-T0
-returns-in-T0 c = c.in-T0.is
-
 pub returns-in_default : goal.returns-in_default
 returns-in_default c =
     ap (λ r. tone_of (number_of c.args.self * number_of r))
