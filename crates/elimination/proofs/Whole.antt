@@ -1,5 +1,5 @@
 -- A whole matrix, column by column.
-use Rattle.std.proofs.Common.{◌≡◌, ℕ, suc, ◌+◌, ◌*◌, ◌<◌, ◌≤◌, Bool, true, false, List, length, set, refl, ap, ◌∙◌, mul-suc, add-one, arith}
+use Rattle.std.proofs.Common.{◌≡◌, ℕ, suc, ◌+◌, ◌*◌, ◌<◌, ◌≤◌, Bool, true, false, List, length, set, ap, ◌∙◌, mul-suc, add-one, arith}
 use Rattle.algebra.specs.Rings.{RingOps, RingLaws}
 use Rattle.tables.specs.Places.{at, Kept}
 use Rattle.elimination.specs.Steps.{column_at, entry_at, rank_after}
@@ -17,13 +17,6 @@ pub record Progress {F M : Type 0} (o : RingOps M) (m : F → M) (rows : ℕ) (s
 module _ {F M : Type 0} (o : RingOps M) (m : F → M) (L : RingLaws o) (rows : ℕ) (start : List F) where
   abbrev W : ℕ → ℕ → M
   W = column_at o m rows start
-
-  pub progress_none : (steps : List F) (pivots places : List ℕ) → Progress o m rows start 0 0 steps pivots places start
-  progress_none steps pivots places = record {
-    eliminated = E.eliminated_none o L rows W (column_at o m rows steps) (entry_at pivots) (entry_at places);
-    relations = E.relations_none o L rows W W (entry_at places);
-    left = λ k h. refl;
-  }
 
   module _ (q rank : ℕ) (steps : List F) (pivots places : List ℕ) (matrix : List F) (X : Progress o m rows start q rank steps pivots places matrix)
       (after : List F) (rows_after : List ℕ) (now : List F) (others : Kept o m (rows * q) rows matrix now) where

@@ -1,5 +1,5 @@
 -- The worked products hold, and a product by codes has one answer. Assumes nothing.
-use Rattle.std.proofs.Common.{◌≡◌, ℕ, true, is_ok, Ok, Err, Result, sym, refl, ◌∙◌, subst, ap₂, MatchResult}
+use Rattle.std.proofs.Common.{◌≡◌, ℕ, Ok, Result, sym, refl, ◌∙◌, subst, ap₂, MatchResult}
 use Rattle.algebra.specs.Rings.{RingOps, Numbering}
 use Rattle.nibbles.specs.Nibbles.{code_of}
 use Rattle.nibbles.specs.declared.Nibble.TheVariants.{N0, N1, N2, N8, N9, N15}
@@ -44,11 +44,6 @@ one_product {R} {o} {order} {number} N m n p q a b =
     sym a.product_number
     ∙ ap₂ (λ (x y : R). number (o.product x y)) (N.apart a.left b.left (a.left_number ∙ sym b.left_number)) (N.apart a.right b.right (a.right_number ∙ sym b.right_number))
     ∙ b.product_number
-
--- an answer whose refusal is ruled out
-pub accepted : {A E : Type 0} (r : Result A E) (P : A → Type 0) (Q : E → Type 0) → MatchResult r P Q → ((e : E) → Q e → ⊥) → is_ok r ≡ true
-accepted (Ok x) P Q h none = refl
-accepted (Err e) P Q h none = absurd (none e h)
 
 pub answered : {A E : Type 0} (r : Result A E) (P : A → Type 0) (Q : E → Type 0) (x : A) → r ≡ Ok x → MatchResult r P Q → P x
 answered r P Q x e h = subst (λ s. MatchResult s P Q) e h
