@@ -3,22 +3,23 @@ ghost use Rattle.std.specs.Prelude.{◌≡◌, ℕ, ◌-◌, ◌<◌, ◌≤◌,
 ghost use Rattle.elimination.specs.Steps.{entry_at};
 ghost use Rattle.frames.specs.Rows.{Highest};
 ghost use Rattle.framing.specs.Framing.{column_in};
-ghost use Rattle.tables.specs.declared.sizes.TheConstants.{COLUMNS};
+ghost use Rattle.tables.specs.declared.sizes.TheConstants.{COLUMNS, MAX_COUNT};
 ghost use Rattle.judging.specs.Answers.{Tells};
 ghost use Rattle.judging.specs.Columns.{check_degree, InOrder, NoHigher};
 
 use crate::offer::Offer;
 use fields::field::Field;
 use frames::row::row_degree;
+use tables::sizes::MAX_COUNT;
 
-// The first n columns of an offered table, with their degrees, 0 for one that is zero.
+// The columns of an offer, with their degrees: of one that is zero it is 0, as `Highest` defines the degree of every row.
 #[derive(Drop)]
 pub(crate) struct Graded<'a, F: Field> {
     pub(crate) n: usize,
     pub(crate) offered: &'a [F],
-    pub(crate) degrees: [usize; 8],
+    pub(crate) degrees: [usize; MAX_COUNT],
     ghost low: { 2 ≤ n },
-    ghost high: { n ≤ 8 },
+    ghost high: { n ≤ MAX_COUNT },
     ghost columns: { length offered.now ≡ COLUMNS },
     ghost bound: { (j : ℕ) → j < n → entry_at degrees j ≤ 16 },
 }
@@ -30,7 +31,7 @@ impl<'a, F: Field> Graded<'a, F> {
         ensures degrees { (j : ℕ) → j < result.n → Highest F.ops result.n (column_in F.ops F.member result.offered.now j) (entry_at result.degrees j) }
     {
         let Offer { n, offered, .. } = *offer;
-        let mut degrees = [0; 8];
+        let mut degrees = [0; MAX_COUNT];
         for (j, degree) in degrees[..n].iter_mut().enumerate() {
             *degree = row_degree(n, offer.column(j));
         }

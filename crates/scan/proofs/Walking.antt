@@ -17,9 +17,9 @@ use Rattle.tables.specs.Places.{at}
 use Rattle.elimination.specs.Steps.{write, column_at, entry_at, reduced, Takes, IsSum}
 use Rattle.elimination.proofs.StepMaps.{write_same, write_other}
 use Rattle.elimination.proofs.Tables.{front_ext}
-use Rattle.scan.specs.Columns.{AtPlaces, CheckAt, Rising}
+use Rattle.scan.specs.Columns.{AtPlaces, CheckAt, Rising, ZeroPast, mark_at}
 use Rattle.frames.specs.Rows.{column_in}
-use Rattle.scan.specs.Walked.{mark_at, Walked}
+use Rattle.scan.specs.Walked.{Walked}
 use Rattle.scan.proofs.FrameTables.{within_all, written_start, written_pivot, written_basic, read_off_written, rest_written}
 use Rattle.scan.proofs.Scans as Scans
 
@@ -149,8 +149,7 @@ module _ {F M : Type 0} (o : RingOps M) (field : IsField o) (member : F → M) (
 
     pub columns_written : (pivotal : Bool) → Takes o rows rank (column_at o member rows steps) (entry_at pivots) c e p R pivotal
         → (after : List F) → AtPlaces o member n 0 rank (entry_at places) R frame after
-        → ((B : ℕ → ℕ) × FrameColumns o (n - 1) d r B (column_in o member after))
-        × ((j i k : ℕ) → j < 8 → i < 8 → k < 17 → (j < n → i < n → ⊥) → at o member after (136 * j + 17 * i + k) ≡ o.zero)
+        → ((B : ℕ → ℕ) × FrameColumns o (n - 1) d r B (column_in o member after)) × ZeroPast o member n after
     columns_written pivotal takes after first =
         let sum = unit_sum pivotal takes in
         let all = Scans.all_found o field d r n positive v rank (entry_at places) b w.B w.E (mark_at found) w.scanned in (

@@ -2,12 +2,17 @@ use mathlib.Core.Path.{◌≡◌, sym, subst, ◌∙◌}
 use Prim.Native.Nat.{ℕ, ◌-◌}
 use native.Mathlib.Omega.{arith}
 use lib.ListN.{length-take}
+use Rattle.std.proofs.lemmas.List.{length-take-le}
 use Rattle.algebra.specs.Divisors.{Combination, VectorDegree}
 use Rattle.algebra.specs.Frames.{FrameColumns}
 use Rattle.algebra.specs.Series.{series}
 use Rattle.frames.specs.Rows.{generator_in, gcd_in, quotient_in, column_in}
-use Rattle.scan.proofs.RowParts.{row_part, cleared_part, part_same}
+use Rattle.tables.proofs.Slices.{at_left}
+use Rattle.scan.proofs.RowParts.{row_part, part_same}
 use Rattle.scan.proofs.write_frame.Goals as goal
+
+pub slice_bounds-clear-end-2 : goal.slice_bounds-clear-end-2
+slice_bounds-clear-end-2 g c = omega (arith, length-take-le 1088 c.args.frame.now (omega arith))
 
 pub scan-requires : goal.scan-requires
 scan-requires g c =
@@ -17,7 +22,7 @@ scan-requires g c =
     record {
       room = (omega arith, (simp length-take (omega arith), omega arith));
       coprime = subst (λ (r : ℕ → ℕ → f.Member). Combination f.ops c.args.n r (series f.ops).one) row c.requires.coprime;
-      cleared = λ k l. c.copy_from.ensures.others k (λ w. omega arith) ∙ cleared_part f.ops f.member c.clear_part.new.table 1088 c.clear_part.ensures.zero k l;
+      cleared = λ k l. c.copy_from.ensures.others k (λ w. omega arith) ∙ at_left f.ops f.member c.clear.new.table _ k (omega (arith, c.clear.auto.table, length-take-le 1088 c.args.frame.now (omega arith))) ∙ c.clear.ensures k;
     }
 
 pub returns : goal.returns
