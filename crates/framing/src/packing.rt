@@ -17,7 +17,7 @@ pub fn pack_degrees<F: Field>(n: usize, frame: &[F], j: usize) -> u64
 {
     let mut packed = 0;
     let columns = frame[GENERATORS * j..GENERATORS * n].chunks_exact(GENERATORS);
-    // The highest goes first.
+    // The highest goes first. `u64::from_le_bytes` would take an array, filled by number, and a cast of each degree to a byte.
     for column in columns.rev() {
         packed = row_degree(n, column) as u64 + 256 * packed;
     }
