@@ -19,8 +19,11 @@ impl<'a, F: Field> Graded<'a, F> {
         ensures { (i : ℕ) → i < self.now.n → at F.ops F.member column.new i ≡ coefficients_in F.ops F.member self.now.offered.now j (entry_at self.now.degrees j) i }
     {
         let degree = self.degrees[j];
-        for (i, place) in column.iter_mut().enumerate() {
-            *place = self.offered[GENERATORS * j + WIDTH * i + degree];
+        let start = GENERATORS * j;
+        let components = self.offered[start..start + WIDTH * self.n].chunks_exact(WIDTH);
+        // A proof knows nothing of what is written through `iter_mut` in a `zip`.
+        for (i, component) in components.enumerate() {
+            column[i] = component[degree];
         }
     }
 

@@ -15,11 +15,13 @@ loop-generator-init g c =
     let f = g.F.Field in
     let both = c.into_iter-generator-iterator.ensures.into_iter_gives in
     let column = c.args.column.now in
+    let first = ap zip_first both ∙ c.zip-generator-items.ensures.first in
+    let second = ap zip_second both ∙ c.zip-generator-items.ensures.second in
     record {
-      size = ?;
-      width = ?;
-      left = ?;
-      behind = ?;
+      size = ap chunks_exact_size first ∙ c.chunks_exact.ensures.size;
+      width = ap chunks_exact_size second ∙ c.chunks_exact-components.ensures.size;
+      left = ap chunks_exact_rest first ∙ c.chunks_exact.ensures.rest;
+      behind = ap chunks_exact_rest second ∙ c.chunks_exact-components.ensures.rest ∙ sym (take_all 136 column (omega arith));
       few = omega arith;
       sent = fun_ext c.clear.ensures;
     }
