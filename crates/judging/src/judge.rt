@@ -27,7 +27,7 @@ impl<'a, F: Field> Offer<'a, F> {
             return Err(Objection::Degrees);
         }
         graded
-            .eliminate(graded.n - 1, &mut factors, &mut pivots)
+            .eliminate(self.n - 1, &mut factors, &mut pivots)
             .ok_or(Objection::Degrees)?;
         let count = graded.count_no_higher();
         if !graded.outside(count, &mut factors, &mut pivots) {

@@ -27,9 +27,10 @@ loop-j-preserved g c =
           (subst (λ (d : ℕ). d ≤ 16) here c.row_degree.ensures.bound);
     }
 
-pub invariant_of-result-clause-bound : goal.invariant_of-result-clause-bound
-invariant_of-result-clause-bound g c = λ j h.
-    subst (λ (d : ℕ). d ≤ 16) (sym (get_or_append_left c.loop-j.degree-items _ 0 j (omega arith))) (c.loop-j.invariant.bound j (omega arith))
+pub invariant_of-result : goal.invariant_of-result
+invariant_of-result g c = record {
+  bound = λ j h. subst (λ (d : ℕ). d ≤ 16) (sym (get_or_append_left c.loop-j.degree-items _ 0 j (omega arith))) (c.loop-j.invariant.bound j (omega arith));
+}
 
 pub returns-clause-degrees : goal.returns-clause-degrees
 returns-clause-degrees g c = λ j h.

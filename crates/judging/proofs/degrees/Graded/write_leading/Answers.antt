@@ -1,4 +1,6 @@
-use Rattle.std.proofs.Common.{◌≡◌, ℕ, ◌+◌, ◌-◌, ◌*◌, ◌<◌, length, take, drop, length-drop, sym, ap, ◌∙◌, get_or, arith, below_more}
+use Rattle.std.proofs.Common.{◌≡◌, ℕ, ◌+◌, ◌-◌, ◌*◌, ◌<◌, length, take, drop, sym, ap, ◌∙◌, get_or, arith, below_more}
+use Rattle.std.specs.List.{between}
+use Rattle.std.proofs.lemmas.List.Edits.{length-between}
 use Rattle.std.specs.Iterator.Adapters.{enumerate_source, enumerate_count}
 use Rattle.std.specs.Slice.Iter.{chunks_exact_rest, chunks_exact_size}
 use lib.ListN.{set}
@@ -6,21 +8,23 @@ use Rattle.frames.proofs.RowSteps.{chunk_next, chunk_last}
 use Rattle.tables.specs.Places.{at}
 use Rattle.tables.proofs.Parts.{poly_at_in}
 use Rattle.tables.proofs.Places.{at_read, at_set_same, at_set_other}
-use Rattle.tables.proofs.Slices.{at_drop}
+use Rattle.tables.proofs.Slices.{at_take, at_drop}
 use Rattle.judging.specs.Columns.{coefficients_in}
 use Rattle.judging.proofs.degrees.Graded.write_leading.Goals as goal
 
 pub loop-i-init : goal.loop-i-init
 loop-i-init g c =
     let graded = c.args.self.now in
+    let j = c.args.j in
+    let n = graded.offer.now.n in
     let both = c.into_iter-i-iterator.ensures.into_iter_gives in
     let start = c.enumerate-i-items.ensures in
     let none : enumerate_count c.into_iter-i-iterator.result ≡ 0 = ap enumerate_count both ∙ start.count in
     record {
       size = ap (λ z. chunks_exact_size (enumerate_source z)) both ∙ ap chunks_exact_size start.source ∙ c.chunks_exact-components.ensures.size;
       left = ap (λ z. chunks_exact_rest (enumerate_source z)) both ∙ ap chunks_exact_rest start.source ∙ c.chunks_exact-components.ensures.rest
-          ∙ ap (λ w. take w (drop (136 * c.args.j) graded.offered.now)) (let e : 136 * c.args.j + 17 * graded.n - 136 * c.args.j ≡ 17 * graded.n = omega arith in e)
-          ∙ ap (λ k. drop (17 * k) (take (17 * graded.n) (drop (136 * c.args.j) graded.offered.now))) (sym none);
+          ∙ ap (take (17 * n)) c.column.ensures.value
+          ∙ ap (λ k. drop (17 * k) (take (17 * n) (between (136 * j) (136 * j + 136) graded.offer.now.offered.now))) (sym none);
       few = omega (arith, none);
       written = λ k h. absurd (omega (arith, none));
     }
@@ -31,8 +35,9 @@ loop-i-preserved g c =
     let o = f.ops in
     let graded = c.args.self.now in
     let j = c.args.j in
-    let offered = graded.offered.now in
-    let xs = drop (136 * j) offered in
+    let offered = graded.offer.now.offered.now in
+    let xs = between (136 * j) (136 * j + 136) offered in
+    let long = length-between offered (136 * j) (136 * j + 136) (omega arith) in
     let degree = get_or graded.degrees j 0 in
     let low = graded.bound j (omega arith) in
     let inv = c.loop-i.invariant in
@@ -43,7 +48,7 @@ loop-i-preserved g c =
     let count : enumerate_count c.next.new.self ≡ k + 1 = steps.2 in
     let part = c.in-Some.component.now in
     let size = steps.0.1.1 ∙ inv.size in
-    let next = chunk_next o g.met.F.Field.laws.ring f.member xs (chunks_exact_rest (enumerate_source c.loop-i.i-iterator)) part (chunks_exact_rest (enumerate_source c.next.new.self)) graded.n k (omega (arith, length-drop (136 * j) offered)) inv.left steps.0.1.0 size in
+    let next = chunk_next o g.met.F.Field.laws.ring f.member xs (chunks_exact_rest (enumerate_source c.loop-i.i-iterator)) part (chunks_exact_rest (enumerate_source c.next.new.self)) graded.offer.now.n k (omega (arith, long)) inv.left steps.0.1.0 size in
     let x = c.index-component-degree.result in
     let after = set c.loop-i.column i x in
     let read : f.member x ≡ coefficients_in o f.member offered j degree k =
@@ -51,6 +56,7 @@ loop-i-preserved g c =
     ∙ sym (at_read o f.member part degree x (omega arith))
     ∙ ap (λ (h : ℕ → f.Member). h degree) next.2
     ∙ poly_at_in o f.member xs (17 * k) 17 degree (omega arith)
+    ∙ at_take o f.member (136 * j + 136 - 136 * j) (drop (136 * j) offered) (17 * k + degree) (omega arith)
     ∙ at_drop o f.member (136 * j) offered (17 * k + degree)
     ∙ ap (at o f.member offered) (let e : 136 * j + (17 * k + degree) ≡ 136 * j + 17 * k + degree = omega arith in e)
     ∙ sym (poly_at_in o f.member offered (136 * j + 17 * k) 17 degree (omega arith)) in
@@ -59,7 +65,7 @@ loop-i-preserved g c =
         (ap (at o f.member after) (sym is) ∙ at_set_same o f.member c.loop-i.column i x (omega arith) ∙ read) in
     record {
       size = steps.0.0 ∙ inv.size;
-      left = next.1 ∙ ap (λ t. drop (17 * t) (take (17 * graded.n) xs)) (sym count);
+      left = next.1 ∙ ap (λ t. drop (17 * t) (take (17 * graded.offer.now.n) xs)) (sym count);
       few = omega (arith, next.0);
       written = λ t h. written t (omega arith);
     }
@@ -68,8 +74,10 @@ pub returns : goal.returns
 returns g c =
     let f = g.F.Field in
     let graded = c.args.self.now in
-    let xs = drop (136 * c.args.j) graded.offered.now in
+    let start = 136 * c.args.j in
+    let xs = between start (start + 136) graded.offer.now.offered.now in
+    let long = length-between graded.offer.now.offered.now start (start + 136) (omega arith) in
     let rest = chunks_exact_rest (enumerate_source c.loop-i.i-iterator) in
     let short : length rest < 17 = omega (arith, c.in-None.ensures.steps.0.1.0, c.loop-i.invariant.size) in
-    let all = chunk_last f.ops g.met.F.Field.laws.ring f.member xs rest graded.n (enumerate_count c.loop-i.i-iterator) (omega (arith, length-drop (136 * c.args.j) graded.offered.now)) c.loop-i.invariant.left short c.loop-i.invariant.few in
+    let all = chunk_last f.ops g.met.F.Field.laws.ring f.member xs rest graded.offer.now.n (enumerate_count c.loop-i.i-iterator) (omega (arith, long)) c.loop-i.invariant.left short c.loop-i.invariant.few in
     λ i h. c.loop-i.invariant.written i (omega arith)
