@@ -1,5 +1,5 @@
 -- Degrees packed one after the other. Assumes nothing.
-use Rattle.std.proofs.Common.{◌≡◌, ℕ, zero, suc, ◌+◌, ◌-◌, ◌*◌, ◌^◌, ◌<◌, ◌≤◌, List, [], ◌∷◌, get_or, refl, ap, ◌∙◌, subst, add-one, inl, inr, arith, lit≤}
+use Rattle.std.proofs.Common.{◌≡◌, ℕ, zero, suc, ◌+◌, ◌*◌, ◌^◌, ◌<◌, ◌≤◌, List, [], ◌∷◌, get_or, refl, ap, ◌∙◌, subst, add-one, inl, inr, arith, lit≤}
 use native.Mathlib.Nat.{pow-succ', pow-le-pow_right}
 use Rattle.algebra.specs.Rings.{RingOps}
 use Rattle.algebra.specs.Divisors.{AllZero, VectorDegree}

@@ -7,7 +7,6 @@ use Rattle.algebra.specs.Frames.{IsFrame}
 use Rattle.algebra.specs.Series.{Degree}
 use Rattle.tables.specs.Places.{poly_at}
 use Rattle.frames.specs.Rows.{generator_in}
-
 -- component i of column j in a frame table, and that the table holds nothing past the first n columns and components
 pub use Rattle.frames.specs.Rows.{column_in}
 pub use Rattle.scan.specs.Columns.{ZeroPast}

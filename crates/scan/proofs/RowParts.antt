@@ -1,12 +1,11 @@
 -- The divided row as the last part of the work table.
 use mathlib.Core.List.{List, [], ◌∷◌, ◌++◌}
 use mathlib.Core.Path.{◌≡◌, sym, ap, ◌∙◌, fun_ext}
-use Prim.Native.Nat.{ℕ, ◌+◌, ◌*◌, ◌<◌, ◌≤◌}
+use Prim.Native.Nat.{ℕ, ◌+◌, ◌*◌}
 use native.Mathlib.Nat.{zero-add, suc-add}
 use native.Mathlib.Omega.{arith}
 use lib.ListN.{length}
 use Rattle.algebra.specs.Rings.{RingOps}
-use Rattle.algebra.specs.Series.{series}
 use Rattle.frames.specs.Rows.{generator_in, quotient_in}
 use Rattle.tables.specs.Places.{at, Kept, poly_at}
 use Rattle.tables.proofs.Parts.{poly_at_in, poly_at_below, poly_at_is}

@@ -8,4 +8,4 @@ use Rattle.scan.specs.Walked.{Walked}
 abbrev pub WalkedTo : {F : Type 0} {f : _} → ℕ → Walk F f → List F → Type 0
 WalkedTo {F} {f} q w frame =
     Walked f.ops f.member w.row.n w.row.d w.steps.rows (generator_in f.ops f.member w.row.entries.now)
-        q w.steps.rank w.basics w.steps.factors.now w.steps.pivots.now w.places w.found frame
+    q w.steps.rank w.basics w.steps.factors.now w.steps.pivots.now w.places w.found frame

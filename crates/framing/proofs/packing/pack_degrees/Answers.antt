@@ -1,4 +1,4 @@
-use Rattle.std.proofs.Common.{length, ◌*◌, ◌+◌, ◌≡◌, ◌≤◌, ℕ, suc, ◌-◌, ◌%◌, ◌^◌, ◌<◌, List, sym, ap, ◌∙◌, subst, take, drop, length-drop, arith}
+use Rattle.std.proofs.Common.{length, ◌*◌, ◌+◌, ◌≡◌, ◌≤◌, suc, ◌-◌, ◌%◌, ◌^◌, ◌<◌, List, ap, ◌∙◌, subst, take, drop, length-drop, arith}
 use Rattle.std.proofs.lemmas.List.{length_push}
 use Rattle.std.specs.List.{between}
 use Rattle.std.specs.Iterator.Adapters.{rev_source}

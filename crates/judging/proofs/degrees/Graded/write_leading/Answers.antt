@@ -61,8 +61,8 @@ loop-i-preserved g c =
     ∙ ap (at o f.member offered) (let e : 136 * j + (17 * k + degree) ≡ 136 * j + 17 * k + degree = omega arith in e)
     ∙ sym (poly_at_in o f.member offered (136 * j + 17 * k) 17 degree (omega arith)) in
     let written = below_more (λ t. at o f.member after t ≡ coefficients_in o f.member offered j degree t) k
-        (λ t h. at_set_other o f.member c.loop-i.column i t x (λ e. omega arith) ∙ inv.written t h)
-        (ap (at o f.member after) (sym is) ∙ at_set_same o f.member c.loop-i.column i x (omega arith) ∙ read) in
+    (λ t h. at_set_other o f.member c.loop-i.column i t x (λ e. omega arith) ∙ inv.written t h)
+    (ap (at o f.member after) (sym is) ∙ at_set_same o f.member c.loop-i.column i x (omega arith) ∙ read) in
     record {
       size = steps.0.0 ∙ inv.size;
       left = next.1 ∙ ap (λ t. drop (17 * t) (take (17 * graded.offer.now.n) xs)) (sym count);
