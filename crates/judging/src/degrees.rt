@@ -1,9 +1,9 @@
 // The degrees of the offered columns.
-ghost use Rattle.std.specs.Prelude.{◌≡◌, ℕ, ◌-◌, ◌<◌, ◌≤◌, length};
+ghost use Rattle.std.specs.Prelude.{◌≡◌, ℕ, ◌-◌, ◌<◌, ◌≤◌};
 ghost use Rattle.elimination.specs.Steps.{entry_at};
 ghost use Rattle.frames.specs.Rows.{Highest};
 ghost use Rattle.framing.specs.Framing.{column_in};
-ghost use Rattle.tables.specs.declared.sizes.TheConstants.{COLUMNS, MAX_COUNT};
+ghost use Rattle.tables.specs.declared.sizes.TheConstants.{MAX_COUNT};
 ghost use Rattle.judging.specs.Answers.{Tells};
 ghost use Rattle.judging.specs.Columns.{check_degree, InOrder, NoHigher};
 
@@ -27,6 +27,7 @@ impl<'a, F: Field> Graded<'a, F> {
         ensures degrees { (j : ℕ) → j < offer.now.n → Highest F.ops offer.now.n (column_in F.ops F.member offer.now.offered.now j) (entry_at result.degrees j) }
     {
         let mut degrees = [0; MAX_COUNT];
+        // By number: a proof knows nothing of what is written through `iter_mut` in a `zip`.
         for (j, degree) in degrees[..offer.n].iter_mut().enumerate() {
             *degree = row_degree(offer.n, offer.column(j));
         }

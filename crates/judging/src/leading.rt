@@ -42,7 +42,7 @@ impl<'a, F: Field> Graded<'a, F> {
         let mut steps = Steps::new(self.offer.n, factors, pivots);
         let mut cells = [F::zero(); MAX_COUNT];
         let column = &mut cells[..self.offer.n];
-        // By number: a column stands at its own place, and so does its degree.
+        // By number: a leading vector is read by the number of its column, from the offer and from the degrees.
         for j in 0..count {
             self.write_leading(j + 1, column);
             if !steps.take_column(column) {

@@ -7,6 +7,7 @@ use fields::field::Field;
 use tables::sizes::{GENERATORS, MAX_COUNT};
 
 // The first n columns of an offered table, for the first n generators.
+// n stands beside the whole tables: a table of n columns would still hold eight components of each, and n would be a length divided.
 #[derive(Drop)]
 pub(crate) struct Offer<'a, F: Field> {
     pub(crate) n: usize,

@@ -1,5 +1,5 @@
 // Walking the places of a row in order: elimination of the lists at them, and the check columns of the basic ones.
-ghost use Rattle.std.specs.Prelude.{◌≡◌, ℕ, suc, ◌+◌, ◌-◌, ◌*◌, ◌<◌, ◌≤◌, length};
+ghost use Rattle.std.specs.Prelude.{◌≡◌, ℕ, suc, ◌+◌, ◌-◌, ◌*◌, ◌<◌, length};
 ghost use Rattle.algebra.specs.Divisors.{Combination};
 ghost use Rattle.algebra.specs.Frames.{FrameColumns};
 ghost use Rattle.algebra.specs.Series.{series};

@@ -1,5 +1,5 @@
 // The row that is scanned.
-ghost use Rattle.std.specs.Prelude.{◌≡◌, ℕ, ◌<◌, ◌≤◌, length};
+ghost use Rattle.std.specs.Prelude.{◌≡◌, ◌<◌, ◌≤◌, length};
 ghost use Rattle.algebra.specs.Divisors.{VectorDegree};
 ghost use Rattle.frames.specs.Rows.{generator_in};
 ghost use Rattle.tables.specs.declared.sizes.TheConstants.{GENERATORS, MAX_COUNT};

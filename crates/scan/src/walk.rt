@@ -1,5 +1,5 @@
 // How far a walk over the places of a row came.
-ghost use Rattle.std.specs.Prelude.{false, ◌≡◌, ℕ, suc, ◌+◌, ◌*◌, ◌<◌, ◌≤◌, length};
+ghost use Rattle.std.specs.Prelude.{false, ◌≡◌, ℕ, suc, ◌+◌, ◌*◌, ◌<◌, length};
 ghost use Rattle.scan.specs.Columns.{mark_at};
 
 use crate::row::Row;
