@@ -77,9 +77,3 @@ module _ {F M : Type 0} (o : RingOps M) (member : F → M) (n j : ℕ) (P : ℕ 
   -- what stands behind the columns is as it was
   pub places_behind : (rank : ℕ) (xs ys : List F) → 0 < n → n ≤ 8 → j < 8 → Rising n rank P → AtPlaces o member n j rank P x xs ys → Kept o member 0 1088 xs ys
   places_behind rank xs ys positive small room places a k out = a.others k (λ t b e. let y = cell_room n j (P t) positive small room (places.within t b) in out (omega arith, omega arith))
-
-  pub check_behind : (rank q : ℕ) (xs ys : List F) → 0 < n → n ≤ 8 → j < 8 → q < n * 17 → Rising n rank P → CheckAt o member n j q rank P x xs ys → Kept o member 0 1088 xs ys
-  check_behind rank q xs ys positive small room within places a k out =
-      a.others k
-      (λ t b e. let y = cell_room n j (P t) positive small room (places.within t b) in out (omega arith, omega arith))
-      (λ e. let y = cell_room n j q positive small room within in out (omega arith, omega arith))

@@ -15,8 +15,8 @@ use Rattle.scan.proofs.Fronts.{count, rising_front, places_front}
 use Rattle.scan.proofs.Walking as Walking
 use Rattle.scan.proofs.walk.Walk.write_first.Goals as goal
 
-pub write_at-requires : goal.write_at-requires
-write_at-requires g c =
+pub write_at-requires-clause-rising : goal.write_at-requires-clause-rising
+write_at-requires-clause-rising g c =
     let f = g.F.Field in
     let laws = g.met.F.Field in
     let row = c.args.self.now.row in
@@ -27,13 +27,9 @@ write_at-requires g c =
     let few : s.rank ≤ s.rows = rank_few f.ops s.rows s.rank (column_at f.ops f.member s.rows s.factors.now) (entry_at s.pivots.now) s.valid in
     let wide : s.rows ≡ suc (row.d + row.d) = c.args.self.now.wide in
     let room : s.rank ≤ length w.places = omega (arith, row.sized) in
-    record {
-      column = omega arith;
-      room = (omega (arith, count s.rank w.places room), omega arith);
-      rising = rising_front s.rank w.places room row.n
-          (Walking.walked_places f.ops field f.member row.n row.d s.rows (generator_in f.ops f.member row.entries.now) row.sized.0 row.sized.1.0 row.sized.1.1 wide degree
-          (row.n * suc row.d) s.rank w.basics s.factors.now s.pivots.now w.places w.found c.args.frame.now c.requires.walked (le_refl (row.n * suc row.d)));
-    }
+    rising_front s.rank w.places room row.n
+      (Walking.walked_places f.ops field f.member row.n row.d s.rows (generator_in f.ops f.member row.entries.now) row.sized.0 row.sized.1.0 row.sized.1.1 wide degree
+      (row.n * suc row.d) s.rank w.basics s.factors.now s.pivots.now w.places w.found c.args.frame.now c.requires.walked (le_refl (row.n * suc row.d)))
 
 pub returns : goal.returns
 returns g c =
