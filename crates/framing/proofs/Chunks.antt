@@ -1,5 +1,5 @@
--- The last of the parts that `chunks_exact(136)` gives of a list. Main results: no_chunk, some_chunk,
--- last_chunk, chunk_place.
+-- The last of the parts that `chunks_exact(136)` gives of a list. Main results: some_chunk, last_chunk,
+-- chunk_place.
 use Rattle.std.proofs.Common.{◌≡◌, ℕ, ◌+◌, ◌-◌, ◌*◌, ◌%◌, ◌<◌, ◌≤◌, List, ◌++◌, length, length-append, length-take, length-take-le, take, drop, sym, ap, ◌∙◌, append_assoc, arith}
 use Rattle.std.proofs.Math.Seq.{take-add}
 use Rattle.std.specs.List.{between}
@@ -8,10 +8,6 @@ use Rattle.std.proofs.lemmas.List.{take_at, drop_at, drop-take, drop-drop, take_
 module _ {A : Type 0} (xs rest : List A) (m : ℕ) (is : rest ≡ take (136 * m) xs) (room : 136 * m ≤ length xs) where
   long : length rest ≡ 136 * m
   long = ap length is ∙ length-take-le (136 * m) xs room
-
-  -- no part is left
-  pub no_chunk : length rest < 136 → m ≡ 0
-  no_chunk short = omega (arith, long)
 
   module _ (next part after : List A) (split : rest ≡ (next ++ part) ++ after) (size : length part ≡ 136) where
     lengths : length rest ≡ length next + 136 + length after

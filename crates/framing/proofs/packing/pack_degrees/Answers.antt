@@ -1,4 +1,4 @@
-use Rattle.std.proofs.Common.{length, ◌*◌, ◌+◌, ◌≡◌, ◌≤◌, suc, ◌-◌, ◌%◌, ◌^◌, ◌<◌, List, ap, ◌∙◌, subst, take, drop, length-drop, arith}
+use Rattle.std.proofs.Common.{length, ◌*◌, ◌+◌, ◌≡◌, ◌≤◌, suc, ◌-◌, ◌%◌, ◌<◌, List, ap, ◌∙◌, subst, take, drop, length-drop, arith}
 use Rattle.std.proofs.lemmas.List.{length_push}
 use Rattle.std.specs.List.{between}
 use Rattle.std.specs.Iterator.Adapters.{rev_source}
@@ -6,7 +6,7 @@ use Rattle.std.specs.Slice.Iter.{chunks_exact_rest, chunks_exact_size}
 use Rattle.frames.specs.Rows.{Highest, column_in, row_in}
 use Rattle.frames.proofs.RowSteps.{highest_range}
 use Rattle.framing.specs.Framing.{DegreesFrom}
-use Rattle.framing.proofs.Chunks.{no_chunk, some_chunk, last_chunk, chunk_place}
+use Rattle.framing.proofs.Chunks.{some_chunk, last_chunk, chunk_place}
 use Rattle.framing.proofs.ColumnDegrees.{highest_degree, degrees_none, degrees_more, packed_below, eight_bytes}
 use Rattle.framing.proofs.packing.pack_degrees.Goals as goal
 
@@ -30,7 +30,8 @@ overflow_mul-packed g c =
     let y = length c.loop-column.yielded in
     let j = 136 * c.args.j in
     let steps = c.in-Some.ensures.steps in
-    let some : 0 < c.args.n - c.args.j - y = some_chunk (drop j c.args.frame.now) _ (c.args.n - c.args.j - y) c.loop-column.invariant.left (omega (arith, length-drop j c.args.frame.now)) _ _ steps.2.0 steps.2.1 (steps.2.2 ∙ c.loop-column.invariant.size) in
+    let some : 0 < c.args.n - c.args.j - y = some_chunk (drop j c.args.frame.now) (chunks_exact_rest (rev_source c.loop-column.column-iterator)) (c.args.n - c.args.j - y) c.loop-column.invariant.left (omega (arith, length-drop j c.args.frame.now))
+    (chunks_exact_rest (rev_source c.next.new.self)) c.in-Some.column.now steps.2.0 steps.2.1 (steps.2.2 ∙ c.loop-column.invariant.size) in
     let below = packed_below y 0 c.loop-column.packed (omega arith) c.loop-column.invariant.bound in
     let most = eight_bytes (y + 1) (omega arith) in
     record { fits = omega arith }
@@ -40,7 +41,8 @@ overflow_add-packed g c =
     let y = length c.loop-column.yielded in
     let j = 136 * c.args.j in
     let steps = c.in-Some.ensures.steps in
-    let some : 0 < c.args.n - c.args.j - y = some_chunk (drop j c.args.frame.now) _ (c.args.n - c.args.j - y) c.loop-column.invariant.left (omega (arith, length-drop j c.args.frame.now)) _ _ steps.2.0 steps.2.1 (steps.2.2 ∙ c.loop-column.invariant.size) in
+    let some : 0 < c.args.n - c.args.j - y = some_chunk (drop j c.args.frame.now) (chunks_exact_rest (rev_source c.loop-column.column-iterator)) (c.args.n - c.args.j - y) c.loop-column.invariant.left (omega (arith, length-drop j c.args.frame.now))
+    (chunks_exact_rest (rev_source c.next.new.self)) c.in-Some.column.now steps.2.0 steps.2.1 (steps.2.2 ∙ c.loop-column.invariant.size) in
     let below = packed_below y c.row_degree.result c.loop-column.packed c.row_degree.ensures.bound c.loop-column.invariant.bound in
     let most = eight_bytes (y + 1) (omega arith) in
     record { fits = omega arith }
@@ -78,19 +80,4 @@ loop-column-preserved g c =
           (highest_degree f.ops n d (column_in f.ops f.member frame k) (highest_range f.ops f.member frame (136 * k) (136 * k + 136) n d (omega arith) highest) (c.requires.nonzero k within))
           (subst (λ i. DegreesFrom f.ops f.member n frame i p) (let e : j + m ≡ suc k = omega arith in e) inv.degrees);
       bound = packed_below y d p c.row_degree.ensures.bound inv.bound;
-    }
-
-pub returns : goal.returns
-returns g c =
-    let f = g.F.Field in
-    let n = c.args.n in
-    let j = c.args.j in
-    let frame = c.args.frame.now in
-    let y = length c.loop-column.yielded in
-    let inv = c.loop-column.invariant in
-    let none = no_chunk (drop (136 * j) frame) (chunks_exact_rest (rev_source c.loop-column.column-iterator)) (n - j - y) inv.left (omega (arith, length-drop (136 * j) frame)) (omega (arith, c.in-None.ensures.steps.2.0, inv.size)) in
-    let few = inv.few in
-    record {
-      degrees = subst (λ i. DegreesFrom f.ops f.member n frame i c.loop-column.packed) (let e : j + (n - j - y) ≡ j = omega arith in e) inv.degrees;
-      bound = subst (λ i. c.loop-column.packed < 256 ^ i) (let e : y ≡ n - j = omega arith in e) inv.bound;
     }

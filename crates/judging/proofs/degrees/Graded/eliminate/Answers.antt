@@ -39,8 +39,8 @@ loop-j-preserved g c =
       reduces = rw add-one more;
     }
 
-pub returns : goal.returns
-returns g c =
+pub returns-clause-answer : goal.returns-clause-answer
+returns-clause-answer g c =
     let f = g.F.Field in
     let graded = c.args.self.now in
     let n = graded.offer.now.n in
@@ -49,7 +49,4 @@ returns g c =
     let all : c.loop-j.j ≡ c.args.count = omega arith in
     let done : Reduces f.ops n c.args.count (column_at f.ops f.member n s.factors.now) (entry_at s.pivots.now) V =
     subst (λ (k : ℕ). Reduces f.ops n k (column_at f.ops f.member n s.factors.now) (entry_at s.pivots.now) V) all c.loop-j.invariant.reduces in
-    record {
-      answer = independent_of_steps f.ops g.met.F.Field.laws.ring n c.args.count (column_at f.ops f.member n s.factors.now) (entry_at s.pivots.now) V done;
-      steps = (c.loop-j.invariant.rows, (c.loop-j.invariant.rank ∙ all, done));
-    }
+    independent_of_steps f.ops g.met.F.Field.laws.ring n c.args.count (column_at f.ops f.member n s.factors.now) (entry_at s.pivots.now) V done

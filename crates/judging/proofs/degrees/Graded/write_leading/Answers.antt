@@ -1,33 +1,16 @@
-use Rattle.std.proofs.Common.{◌≡◌, ℕ, ◌+◌, ◌-◌, ◌*◌, ◌<◌, length, take, drop, sym, ap, ◌∙◌, get_or, arith, below_more}
+use Rattle.std.proofs.Common.{◌≡◌, ℕ, ◌+◌, ◌-◌, ◌*◌, take, drop, sym, ap, ◌∙◌, get_or, arith, below_more}
 use Rattle.std.specs.List.{between}
 use Rattle.std.proofs.lemmas.List.Edits.{length-between}
 use Rattle.std.specs.Iterator.Adapters.{enumerate_source, enumerate_count}
-use Rattle.std.specs.Slice.Iter.{chunks_exact_rest, chunks_exact_size}
+use Rattle.std.specs.Slice.Iter.{chunks_exact_rest}
 use lib.ListN.{set}
-use Rattle.frames.proofs.RowSteps.{chunk_next, chunk_last}
+use Rattle.frames.proofs.RowSteps.{chunk_next}
 use Rattle.tables.specs.Places.{at}
 use Rattle.tables.proofs.Parts.{poly_at_in}
 use Rattle.tables.proofs.Places.{at_read, at_set_same, at_set_other}
 use Rattle.tables.proofs.Slices.{at_take, at_drop}
 use Rattle.judging.specs.Columns.{coefficients_in}
 use Rattle.judging.proofs.degrees.Graded.write_leading.Goals as goal
-
-pub loop-i-init : goal.loop-i-init
-loop-i-init g c =
-    let graded = c.args.self.now in
-    let j = c.args.j in
-    let n = graded.offer.now.n in
-    let both = c.into_iter-i-iterator.ensures.into_iter_gives in
-    let start = c.enumerate-i-items.ensures in
-    let none : enumerate_count c.into_iter-i-iterator.result ≡ 0 = ap enumerate_count both ∙ start.count in
-    record {
-      size = ap (λ z. chunks_exact_size (enumerate_source z)) both ∙ ap chunks_exact_size start.source ∙ c.chunks_exact-components.ensures.size;
-      left = ap (λ z. chunks_exact_rest (enumerate_source z)) both ∙ ap chunks_exact_rest start.source ∙ c.chunks_exact-components.ensures.rest
-          ∙ ap (take (17 * n)) c.column.ensures.value
-          ∙ ap (λ k. drop (17 * k) (take (17 * n) (between (136 * j) (136 * j + 136) graded.offer.now.offered.now))) (sym none);
-      few = omega (arith, none);
-      written = λ k h. absurd (omega (arith, none));
-    }
 
 pub loop-i-preserved : goal.loop-i-preserved
 loop-i-preserved g c =
@@ -69,15 +52,3 @@ loop-i-preserved g c =
       few = omega (arith, next.0);
       written = λ t h. written t (omega arith);
     }
-
-pub returns : goal.returns
-returns g c =
-    let f = g.F.Field in
-    let graded = c.args.self.now in
-    let start = 136 * c.args.j in
-    let xs = between start (start + 136) graded.offer.now.offered.now in
-    let long = length-between graded.offer.now.offered.now start (start + 136) (omega arith) in
-    let rest = chunks_exact_rest (enumerate_source c.loop-i.i-iterator) in
-    let short : length rest < 17 = omega (arith, c.in-None.ensures.steps.0.1.0, c.loop-i.invariant.size) in
-    let all = chunk_last f.ops g.met.F.Field.laws.ring f.member xs rest graded.offer.now.n (enumerate_count c.loop-i.i-iterator) (omega (arith, long)) c.loop-i.invariant.left short c.loop-i.invariant.few in
-    λ i h. c.loop-i.invariant.written i (omega arith)
