@@ -1,5 +1,5 @@
 -- Degrees packed one after the other. Assumes nothing.
-use Rattle.std.proofs.Common.{◌≡◌, ℕ, zero, suc, ◌+◌, ◌-◌, ◌*◌, ◌^◌, ◌<◌, ◌≤◌, List, [], ◌∷◌, get_or, refl, ap, ◌∙◌, subst, inl, inr, arith, lit≤}
+use Rattle.std.proofs.Common.{◌≡◌, ℕ, zero, suc, ◌+◌, ◌*◌, ◌^◌, ◌<◌, ◌≤◌, List, [], ◌∷◌, get_or, refl, ap, ◌∙◌, subst, add-one, inl, inr, arith, lit≤}
 use native.Mathlib.Nat.{pow-succ', pow-le-pow_right}
 use Rattle.algebra.specs.Rings.{RingOps}
 use Rattle.algebra.specs.Divisors.{AllZero, VectorDegree}
@@ -28,11 +28,8 @@ module _ {F R : Type 0} (o : RingOps R) (member : F → R) (n : ℕ) (frame : Li
       column (suc k) l = subst (λ (i : ℕ). VectorDegree o n (column_in o member frame i) (get_or rest.degrees k 0)) (let z : suc j + k ≡ j + suc k = omega arith in z) (rest.column k (omega arith))
 
 -- one byte more
-pub packed_below : (n j d p : ℕ) → j < n → d ≤ 16 → p < 256 ^ (n - suc j) → d + 256 * p < 256 ^ (n - j)
-packed_below n j d p h low below =
-    let s : n - j ≡ suc (n - suc j) = omega arith in
-    let e : 256 ^ (n - j) ≡ 256 * 256 ^ (n - suc j) = ap (λ k. 256 ^ k) s ∙ pow-succ' 256 (n - suc j) in
-    omega arith
+pub packed_below : (y d p : ℕ) → d ≤ 16 → p < 256 ^ y → d + 256 * p < 256 ^ (y + 1)
+packed_below y d p low below = let e : 256 ^ (y + 1) ≡ 256 * 256 ^ y = ap (λ k. 256 ^ k) (add-one y) ∙ pow-succ' 256 y in omega arith
 
 pub eight_bytes : (k : ℕ) → k ≤ 8 → 256 ^ k ≤ 2 ^ 64
 eight_bytes k h = pow-le-pow_right (lit≤ tt) h

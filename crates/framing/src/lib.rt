@@ -12,7 +12,7 @@ use fields::field::Field;
 use frames::row::{Degrees, divide_by_gcd};
 use scan::write_frame;
 use tables::clear;
-use tables::sizes::{FRAME, GENERATORS, WORK};
+use tables::sizes::{FRAME, GENERATORS, MAX_COUNT, WORK};
 
 pub mod packing;
 
@@ -27,7 +27,7 @@ pub struct Numbers {
 impl Numbers {
     // The numbers of the n columns of a frame table, by the degrees of the divided generators and of the divisor.
     pub fn of<F: Field>(n: usize, degrees: Degrees, frame: &[F]) -> Numbers
-        requires room { (n ≤ 8) × (length frame.now ≡ FRAME) }
+        requires room { (n ≤ MAX_COUNT) × (length frame.now ≡ FRAME) }
         requires nonzero { (k : ℕ) → k < n → AllZero F.ops n (column_in F.ops F.member frame.now k) → ⊥ }
         ensures degrees { (result.degree ≡ degrees.row) × (result.divisor ≡ degrees.divisor) }
         ensures columns { DegreesFrom F.ops F.member n frame.now 0 result.columns }
@@ -40,14 +40,15 @@ impl Numbers {
     }
 }
 
-// Writes the frame of the first n generators, absent where they are all zero, and leaves the work table at zero. Drafts, whose type keeps the limits of n, stand above.
+// Writes the frame of the first n generators, absent where they are all zero, and leaves the work table at zero.
+// n stands beside the whole table, here and in `Numbers::of`: contracts name the table of all generators, and n is no length of it.
 pub fn frame_row<F: Field>(
     n: usize,
     generators: &[F],
     frame: &mut [F],
     work: &mut [F],
 ) -> Option<Numbers>
-    requires sized { (2 ≤ n) × (n ≤ 8) }
+    requires sized { (2 ≤ n) × (n ≤ MAX_COUNT) }
     requires room { (length generators.now ≡ GENERATORS) × ((length frame.old ≡ FRAME) × (length work.old ≡ WORK)) }
     ensures answer { MatchOption result (AllZero F.ops n (generator_in F.ops F.member generators.now) × (frame.new ≡ frame.old)) (λ x. HoldsFrame F.ops F.member n generators.now frame.new x.degree x.divisor x.columns) }
     ensures cleared { Cleared F.ops F.member work.new }

@@ -9,11 +9,7 @@ use Rattle.algebra.proofs.Series as S
 use Rattle.polynomials.specs.Polynomials.{DegreeOf}
 use Rattle.judging.specs.Answers.{Tells}
 
--- what is known of an option, by whether there is one
-pub none_found : {X : Type 0} (P Q : Type 0) (r : Option X) → is_some r ≡ false → MatchOption r P (λ x. Q) → P
-none_found P Q None e m = m
-none_found P Q (Some x) e m = cc
-
+-- what is known of an option where there is one
 pub some_found : {X : Type 0} (P Q : Type 0) (r : Option X) → is_some r ≡ true → MatchOption r P (λ x. Q) → Q
 some_found P Q None e m = cc
 some_found P Q (Some x) e m = m

@@ -1,4 +1,5 @@
--- Offered columns: their products with the generators, their degrees and their leading vectors. The clauses of the questions cite it; it assumes nothing.
+-- Offered columns: their products with the generators, their degrees and their leading vectors. The clauses of the questions cite it; it
+-- assumes nothing.
 use Rattle.std.specs.Prelude.{◌≡◌, ℕ, suc, ◌<◌, ◌≤◌, List}
 use Rattle.algebra.specs.Rings.{RingOps}
 use Rattle.algebra.specs.Series.{sum_below}

@@ -1,13 +1,13 @@
--- What is judged of offered columns, and what stands in the tables when they are taken. The clauses of the judge and of `offer_row` cite it; it assumes nothing.
-use Rattle.std.specs.Prelude.{◌≡◌, ℕ, ◌+◌, ◌-◌, ◌*◌, ◌<◌, ◌≤◌, List, ◌≢◌}
+-- What is judged of offered columns, and what stands in the tables when they are taken. The clauses of the judge and of `offer_row` cite
+-- it; it assumes nothing.
+use Rattle.std.specs.Prelude.{◌≡◌, ℕ, ◌+◌, ◌-◌, ◌<◌, ◌≤◌, List, ◌≢◌, Result, MatchResult}
 use Rattle.algebra.specs.Rings.{RingOps}
 use Rattle.algebra.specs.Series.{dot, series, Degree}
 use Rattle.algebra.specs.Divisors.{AllZero, MonicGcd, DividedRow, VectorDegree}
 use Rattle.algebra.specs.Optimal.{DegreeOptimal}
 use Rattle.algebra.specs.DegreeTest.{PassesTest}
-use Rattle.tables.specs.Places.{at}
 use Rattle.frames.specs.Rows.{generator_in, gcd_in}
-use Rattle.framing.specs.Framing.{column_in, divisor_in, DegreesFrom}
+use Rattle.framing.specs.Framing.{column_in, divisor_in, DegreesFrom, ZeroPast}
 use Rattle.judging.specs.declared.objection.Objection.{Objection}
 use Rattle.judging.specs.declared.objection.Objection.TheVariants.{AllZero as EveryZero, First, Check}
 use Rattle.judging.specs.Columns.{AllSyzygies, LowestNoSyzygy}
@@ -31,6 +31,10 @@ pub data Objects {M : Type 0} (o : RingOps M) (n m : ℕ) (a : ℕ → ℕ → M
 abbrev pub OptimalFor : {M : Type 0} → RingOps M → (m : ℕ) → (ℕ → ℕ → M) → (ℕ → ℕ → ℕ → M) → Type 0
 OptimalFor {M} o m a c = (g : ℕ → M) × DegreeOptimal o m a g c
 
+-- the columns are taken where they are degree-optimal for the row, and objected to where they are not
+abbrev pub TellsOptimal : {M X : Type 0} → RingOps M → (m : ℕ) → (ℕ → ℕ → M) → (ℕ → ℕ → ℕ → M) → Result X Objection → Type 0
+TellsOptimal o m a c r = MatchResult r (λ _. OptimalFor o m a c) (λ _. OptimalFor o m a c → ⊥)
+
 -- the columns in the table pass the test by degrees, for the generators, whose monic gcd, of that degree, stands in the work table
 pub record Passed {F M : Type 0} (o : RingOps M) (member : F → M) (n : ℕ) (generators offered work : List F) (degree divisor : ℕ) : Type 0 where
   pub row_of : RowOf o n (generator_in o member generators) (gcd_in o member work) degree
@@ -38,13 +42,13 @@ pub record Passed {F M : Type 0} (o : RingOps M) (member : F → M) (n : ℕ) (g
   pub test : PassesTest o (n - 1) (generator_in o member generators) (gcd_in o member work) degree (column_in o member offered)
   pub within : degree + divisor ≤ 16
 
--- The frame table holds the offered columns, which are degree-optimal for the first n generators, and the divisor of these, of that degree; every other place is zero.
--- The degree is that of the generators divided by the divisor, and the column degrees are packed.
+-- The frame table holds the offered columns, which are degree-optimal for the first n generators, and the divisor of these, of that degree;
+-- every other place is zero. The degree is that of the generators divided by the divisor, and the column degrees are packed.
 pub record HoldsOffer {F M : Type 0} (o : RingOps M) (member : F → M) (n : ℕ) (generators offered frame : List F) (degree divisor columns : ℕ) : Type 0 where
   pub row_of : RowOf o n (generator_in o member generators) (divisor_in o member frame) degree
   pub copied : (j i : ℕ) → j < n → i < n → column_in o member frame j i ≡ column_in o member offered j i
   pub optimal : DegreeOptimal o (n - 1) (generator_in o member generators) (divisor_in o member frame) (column_in o member frame)
   pub divisor_degree : Degree o (divisor_in o member frame) divisor
   pub column_degrees : DegreesFrom o member n frame 0 columns
-  pub rest : (j i k : ℕ) → j < 8 → i < 8 → k < 17 → (j < n → i < n → ⊥) → at o member frame (136 * j + 17 * i + k) ≡ o.zero
+  pub rest : ZeroPast o member n frame
   pub within : degree + divisor ≤ 16

@@ -1,4 +1,5 @@
--- The questions about degrees, of columns of n components, of which m are check columns. The clauses of the judge cite it; it assumes nothing.
+-- The questions about degrees, of columns of n components, of which m are check columns. The clauses of the judge cite it; it assumes
+-- nothing.
 use Rattle.std.specs.Prelude.{◌≡◌, ℕ, suc, ◌<◌, ◌≤◌}
 use Rattle.algebra.specs.Rings.{RingOps}
 use Rattle.algebra.specs.Series.{sum_below, total}

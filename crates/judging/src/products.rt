@@ -12,7 +12,7 @@ use fields::field::Field;
 use polynomials::{degree, multiply_into};
 use tables::clear;
 use tables::rows::add_multiple;
-use tables::sizes::{GENERATORS, PRODUCT, WIDTH};
+use tables::sizes::{GENERATORS, MAX_COUNT, PRODUCT, WIDTH};
 
 impl<'a, F: Field> Offer<'a, F> {
     // Writes the generators times a column.
@@ -22,15 +22,15 @@ impl<'a, F: Field> Offer<'a, F> {
     {
         clear(product);
         let generators = &self.generators[..WIDTH * self.n];
-        for (i, generator) in generators.chunks_exact(WIDTH).enumerate() {
-            let start = WIDTH * i;
-            multiply_into(product, generator, &column[start..start + WIDTH]);
+        let components = column.chunks_exact(WIDTH);
+        for (generator, component) in generators.chunks_exact(WIDTH).zip(components) {
+            multiply_into(product, generator, component);
         }
     }
 
     // Whether the generators times column j are the polynomial of these coefficients.
     pub(crate) fn product_is(&self, j: usize, polynomial: &[F]) -> bool
-        requires { (j < 8) × (length polynomial.now ≤ PRODUCT) }
+        requires { (j < MAX_COUNT) × (length polynomial.now ≤ PRODUCT) }
         ensures { Tells (dot (series F.ops) self.now.n (generator_in F.ops F.member self.now.generators.now) (column_in F.ops F.member self.now.offered.now j) ≡ at F.ops F.member polynomial.now) result }
     {
         let column = self.column(j);
@@ -42,7 +42,7 @@ impl<'a, F: Field> Offer<'a, F> {
     }
 
     // The lowest check column that the generators do not send to zero.
-    // By a `for`: a closure in `find` would need the clause of `product_is` once more.
+    // By a `for`: without the clause of `product_is` once more, at a closure in `find`, the proof does not close.
     pub(crate) fn lowest_no_syzygy(&self) -> Option<usize>
         ensures { MatchOption result (AllSyzygies F.ops self.now.n (generator_in F.ops F.member self.now.generators.now) (column_in F.ops F.member self.now.offered.now)) (LowestNoSyzygy F.ops self.now.n (generator_in F.ops F.member self.now.generators.now) (column_in F.ops F.member self.now.offered.now)) }
     {

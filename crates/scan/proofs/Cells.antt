@@ -75,9 +75,5 @@ module _ {F M : Type 0} (o : RingOps M) (member : F → M) (n j : ℕ) (P : ℕ 
   at_places_of y rank xs ys same a = record { here = λ t l. a.here t l ∙ same t l; others = a.others }
 
   -- what stands behind the columns is as it was
-  pub places_behind : (rank : ℕ) (xs ys : List F) → 0 < n → n ≤ 8 → j < 8 → Rising n rank P → AtPlaces o member n j rank P x xs ys → (k : ℕ) → 1088 ≤ k → at o member ys k ≡ at o member xs k
-  places_behind rank xs ys positive small room places a k l = a.others k (λ t b e. let y = cell_room n j (P t) positive small room (places.within t b) in omega arith)
-
-  pub check_behind : (rank q : ℕ) (xs ys : List F) → 0 < n → n ≤ 8 → j < 8 → q < n * 17 → Rising n rank P → CheckAt o member n j q rank P x xs ys → (k : ℕ) → 1088 ≤ k → at o member ys k ≡ at o member xs k
-  check_behind rank q xs ys positive small room within places a k l =
-      a.others k (λ t b e. let y = cell_room n j (P t) positive small room (places.within t b) in omega arith) (λ e. let y = cell_room n j q positive small room within in omega arith)
+  pub places_behind : (rank : ℕ) (xs ys : List F) → 0 < n → n ≤ 8 → j < 8 → Rising n rank P → AtPlaces o member n j rank P x xs ys → Kept o member 0 1088 xs ys
+  places_behind rank xs ys positive small room places a k out = a.others k (λ t b e. let y = cell_room n j (P t) positive small room (places.within t b) in out (omega arith, omega arith))

@@ -1,6 +1,7 @@
 // How long the lent tables are, and the rows in them.
 
-// How many generators a design has at most, and columns a frame.
+// How many generators a design has at most, and columns a frame. Below drafts, whose type keeps the limits of their number, it is a plain
+// number with its limits in clauses: with a type of its own, each clause on n would say `.value`, and no clause would go.
 pub const MAX_COUNT: usize = 8;
 
 // How many coefficients a polynomial has: powers 0 to 16.

@@ -1,35 +1,41 @@
 use mathlib.Core.Path.{◌≡◌, sym, subst, ◌∙◌}
 use Prim.Native.Nat.{ℕ, ◌-◌}
 use native.Mathlib.Omega.{arith}
-use lib.ListN.{length-take}
+use Rattle.std.proofs.lemmas.List.{length-take-le}
 use Rattle.algebra.specs.Divisors.{Combination, VectorDegree}
 use Rattle.algebra.specs.Frames.{FrameColumns}
 use Rattle.algebra.specs.Series.{series}
 use Rattle.frames.specs.Rows.{generator_in, gcd_in, quotient_in, column_in}
-use Rattle.scan.proofs.RowParts.{row_part, cleared_part, part_same}
+use Rattle.tables.proofs.Slices.{at_left}
+use Rattle.scan.proofs.RowParts.{row_part, part_same}
 use Rattle.scan.proofs.write_frame.Goals as goal
 
-pub scan-requires : goal.scan-requires
-scan-requires g c =
-    let f = g.F.Field in
-    let parts = c.split_at_mut-tables in
-    let row : quotient_in f.ops f.member c.args.work.now ≡ generator_in f.ops f.member parts.result.1.now = row_part f.ops f.member c.args.work.now parts.result.0.now parts.result.1.now parts.ensures.value parts.ensures.front_len in
-    record {
-      room = (omega arith, (simp length-take (omega arith), omega arith));
-      coprime = subst (λ (r : ℕ → ℕ → f.Member). Combination f.ops c.args.n r (series f.ops).one) row c.requires.coprime;
-      cleared = λ k l. c.copy_from.ensures.others k (λ w. omega arith) ∙ cleared_part f.ops f.member c.clear_part.new.table 1088 c.clear_part.ensures.zero k l;
-    }
+pub slice_bounds-clear-end-2 : goal.slice_bounds-clear-end-2
+slice_bounds-clear-end-2 g c = omega (arith, length-take-le 1088 c.args.frame.now (omega arith))
 
-pub returns : goal.returns
-returns g c =
+pub scan-requires-clause-coprime : goal.scan-requires-clause-coprime
+scan-requires-clause-coprime g c =
     let f = g.F.Field in
     let parts = c.split_at_mut-tables in
-    let row : quotient_in f.ops f.member c.args.work.now ≡ generator_in f.ops f.member parts.result.1.now = row_part f.ops f.member c.args.work.now parts.result.0.now parts.result.1.now parts.ensures.value parts.ensures.front_len in
-    record {
-      columns = subst (λ (r : ℕ → ℕ → f.Member). (p : ℕ → ℕ) × FrameColumns f.ops (c.args.n - 1) c.args.d r p (column_in f.ops f.member c.scan.new.frame)) (sym row) c.scan.ensures.columns;
-      divisor = part_same f.ops f.member c.copy_from.new.table c.scan.new.frame 1088 17 (gcd_in f.ops f.member c.args.work.now) c.scan.ensures.behind c.copy_from.ensures.copy;
-      rest = c.scan.ensures.rest;
-    }
+    subst (λ (r : ℕ → ℕ → f.Member). Combination f.ops c.args.n r (series f.ops).one) (row_part f.ops f.member c.args.work.now parts.result.0.now parts.result.1.now parts.ensures.value parts.ensures.front_len) c.requires.coprime
+
+pub scan-requires-clause-cleared : goal.scan-requires-clause-cleared
+scan-requires-clause-cleared g c = λ k l.
+    let f = g.F.Field in
+    let long = length-take-le 1088 c.args.frame.now (omega arith) in
+    c.copy_from.ensures.others k (λ w. omega arith) ∙ at_left f.ops f.member c.clear.new.table _ k (omega (arith, c.clear.auto.table, long)) ∙ c.clear.ensures k
+
+pub returns-clause-columns : goal.returns-clause-columns
+returns-clause-columns g c =
+    let f = g.F.Field in
+    let parts = c.split_at_mut-tables in
+    subst (λ (r : ℕ → ℕ → f.Member). (p : ℕ → ℕ) × FrameColumns f.ops (c.args.n - 1) c.args.d r p (column_in f.ops f.member c.scan.new.frame))
+    (sym (row_part f.ops f.member c.args.work.now parts.result.0.now parts.result.1.now parts.ensures.value parts.ensures.front_len)) c.scan.ensures.columns
+
+pub returns-clause-divisor : goal.returns-clause-divisor
+returns-clause-divisor g c =
+    let f = g.F.Field in
+    part_same f.ops f.member c.copy_from.new.table c.scan.new.frame 1088 17 (gcd_in f.ops f.member c.args.work.now) c.scan.ensures.behind c.copy_from.ensures.copy
 
 pub invariant_of-row-clause-degree : goal.invariant_of-row-clause-degree
 invariant_of-row-clause-degree g c =

@@ -10,7 +10,7 @@ pub returns : goal.returns
 returns g c =
     let graded = c.args.self.now in
     let first = entry_at graded.degrees 0 in
-    let xs = take (graded.n - 1) (drop 1 graded.degrees) in
+    let xs = take (graded.offer.now.n - 1) (drop 1 graded.degrees) in
     let found = IsFirst-from_position _ _ c.position.result (λ y. first < y) (λ y. y ≤ first) c.position.ensures.ran (YieldsList-from_slice xs cc) (λ x q k. search (rules, tests)) (λ x q k. search (rules, tests)) in
-    subst (λ (k : ℕ). NoHigher (graded.n - 1) first (check_degree graded.degrees) k) (sym c.unwrap_or.ensures)
-    (no_higher xs (graded.n - 1) (check_degree graded.degrees) (checks_listed graded.degrees graded.n (omega arith) (omega arith)) first c.position.result found)
+    subst (λ (k : ℕ). NoHigher (graded.offer.now.n - 1) first (check_degree graded.degrees) k) (sym c.unwrap_or.ensures)
+    (no_higher xs (graded.offer.now.n - 1) (check_degree graded.degrees) (checks_listed graded.degrees graded.offer.now.n (omega arith) (omega arith)) first c.position.result found)

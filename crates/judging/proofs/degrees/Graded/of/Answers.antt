@@ -1,5 +1,5 @@
 use Rattle.std.proofs.Common.{◌+◌, ◌*◌, ℕ, ◌<◌, ◌≤◌, length, sym, subst, arith, rules, below_more}
-use Rattle.std.proofs.lemmas.List.{get_or-set_same, get_or-set_other, get_or_append_left}
+use Rattle.std.proofs.lemmas.List.{get_or-set_same, get_or-set_other}
 use Rattle.frames.specs.Rows.{Highest}
 use Rattle.framing.specs.Framing.{column_in}
 use Rattle.frames.proofs.RowSteps.{highest_range}
@@ -26,12 +26,3 @@ loop-j-preserved g c =
           (λ i h. subst (λ (d : ℕ). d ≤ 16) (kept i h) (c.loop-j.invariant.bound i h))
           (subst (λ (d : ℕ). d ≤ 16) here c.row_degree.ensures.bound);
     }
-
-pub invariant_of-result-clause-bound : goal.invariant_of-result-clause-bound
-invariant_of-result-clause-bound g c = λ j h.
-    subst (λ (d : ℕ). d ≤ 16) (sym (get_or_append_left c.loop-j.degree-items _ 0 j (omega arith))) (c.loop-j.invariant.bound j (omega arith))
-
-pub returns-clause-degrees : goal.returns-clause-degrees
-returns-clause-degrees g c = λ j h.
-    let f = g.F.Field in
-    subst (λ (d : ℕ). Highest f.ops c.args.offer.now.n (column_in f.ops f.member c.args.offer.now.offered.now j) d) (sym (get_or_append_left c.loop-j.degree-items _ 0 j (omega arith))) (c.loop-j.invariant.degrees j (omega arith))

@@ -8,7 +8,7 @@ abbrev pub invariant-loop-j : goal.invariant-loop-j
 invariant-loop-j g l =
     let f = g.F.Field in
     record {
-      all : length l.degree-items ≡ l.n;
-      degrees : (j : ℕ) → j < l.j → Highest f.ops l.n (column_in f.ops f.member l.offered j) (entry_at l.degree-items j);
+      all : length l.degree-items ≡ l.offer.n;
+      degrees : (j : ℕ) → j < l.j → Highest f.ops l.offer.n (column_in f.ops f.member l.offer.offered.now j) (entry_at l.degree-items j);
       bound : (j : ℕ) → j < l.j → entry_at l.degree-items j ≤ 16;
     }

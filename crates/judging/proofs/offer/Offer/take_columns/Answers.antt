@@ -24,28 +24,24 @@ loop-j-preserved g c =
       λ k h. c.copy_from-in-loop-j.ensures.others k (λ w. h j (omega arith) w) ∙ c.loop-j.invariant.1 k (λ t l w. h t (omega arith) w),
     )
 
-pub returns : goal.returns
-returns g c =
+pub returns-clause-copied : goal.returns-clause-copied
+returns-clause-copied g c = λ j i h l.
     let f = g.F.Field in
-    let n = c.args.self.now.n in
     let offered = c.args.self.now.offered.now in
+    let after = c.loop-j.frame in
+    poly_at_is f.ops f.member after (136 * j + 17 * i) 17 (poly_at f.ops f.member offered (136 * j + 17 * i) 17) (poly_at_below f.ops f.member offered (136 * j + 17 * i) 17)
+    (λ k b.
+    let e : 136 * j + 17 * i + k ≡ 136 * j + (17 * i + k) = omega arith in
+    ap (at f.ops f.member after) e
+    ∙ c.loop-j.invariant.0 j (17 * i + k) (omega arith) (omega arith)
+    ∙ ap (at f.ops f.member offered) (sym e)
+    ∙ sym (poly_at_in f.ops f.member offered (136 * j + 17 * i) 17 k b))
+
+pub returns-clause-divisor : goal.returns-clause-divisor
+returns-clause-divisor g c =
+    let f = g.F.Field in
     let start = c.copy_from.new.table in
     let after = c.loop-j.frame in
-    record {
-      copied = λ j i h l.
-          poly_at_is f.ops f.member after (136 * j + 17 * i) 17 (poly_at f.ops f.member offered (136 * j + 17 * i) 17) (poly_at_below f.ops f.member offered (136 * j + 17 * i) 17)
-          (λ k b.
-          let e : 136 * j + 17 * i + k ≡ 136 * j + (17 * i + k) = omega arith in
-          ap (at f.ops f.member after) e
-          ∙ c.loop-j.invariant.0 j (17 * i + k) (omega arith) (omega arith)
-          ∙ ap (at f.ops f.member offered) (sym e)
-          ∙ sym (poly_at_in f.ops f.member offered (136 * j + 17 * i) 17 k b));
-      divisor =
-          poly_at_is f.ops f.member after 1088 17 (poly_at f.ops f.member start 1088 17) (poly_at_below f.ops f.member start 1088 17)
-          (λ k b. c.loop-j.invariant.1 (1088 + k) (λ t l w. omega arith) ∙ sym (poly_at_in f.ops f.member start 1088 17 k b))
-          ∙ c.copy_from.ensures.copy;
-      rest = λ j i k a b l outside.
-          c.loop-j.invariant.1 (136 * j + 17 * i + k) (λ t h w. outside (omega arith) (omega arith))
-          ∙ c.copy_from.ensures.others (136 * j + 17 * i + k) (λ w. omega arith)
-          ∙ c.clear.ensures (136 * j + 17 * i + k);
-    }
+    poly_at_is f.ops f.member after 1088 17 (poly_at f.ops f.member start 1088 17) (poly_at_below f.ops f.member start 1088 17)
+    (λ k b. c.loop-j.invariant.1 (1088 + k) (λ t l w. omega arith) ∙ sym (poly_at_in f.ops f.member start 1088 17 k b))
+    ∙ c.copy_from.ensures.copy

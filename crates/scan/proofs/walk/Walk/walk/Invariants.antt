@@ -1,8 +1,6 @@
 use mathlib.Core.Path.{◌≡◌}
-use Prim.Native.Nat.{ℕ, ◌≤◌}
-use Rattle.frames.specs.Rows.{generator_in}
-use Rattle.tables.specs.Places.{at}
-use Rattle.scan.specs.Walked.{Walked}
+use Rattle.tables.specs.Places.{Kept}
+use Rattle.scan.specs.Walks.{WalkedTo}
 use Rattle.scan.proofs.walk.Walk.walk.Given as goal
 
 abbrev pub invariant-loop-q : goal.invariant-loop-q
@@ -12,6 +10,6 @@ invariant-loop-q g l =
     let row = l.initial.self.row in
     record {
       kept : w.row ≡ row;
-      walked : Walked f.ops f.member row.n row.d w.steps.rows (generator_in f.ops f.member row.entries.now) l.q w.steps.rank w.basics w.steps.factors.now w.steps.pivots.now w.places w.found l.frame;
-      behind : (k : ℕ) → 1088 ≤ k → at f.ops f.member l.frame k ≡ at f.ops f.member l.initial.frame k;
+      walked : WalkedTo l.q w l.frame;
+      behind : Kept f.ops f.member 0 1088 l.initial.frame l.frame;
     }
