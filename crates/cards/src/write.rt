@@ -12,6 +12,7 @@ use fields::field::Field;
 use tables::sizes::GENERATORS;
 
 // Writes the card of a design into a buffer of 555 bytes, and answers its length; zeros follow.
+// The caller lends the buffer, since no memory is asked for here; only the length says where the card ends in it.
 pub fn write_card<F: Field>(
     draft: &Draft,
     generators: &[F],

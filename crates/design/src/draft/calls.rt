@@ -8,7 +8,7 @@ ghost use Rattle.design.specs.Drafts.{begin_questions, Puts};
 use crate::draft::Draft;
 use crate::fault::DesignFault;
 use fields::field::Field;
-use tables::sizes::{GENERATORS, WIDTH};
+use tables::sizes::{GENERATORS, MAX_COUNT, WIDTH};
 
 impl Draft {
     // Begins a design of n generators, all zero.
@@ -19,7 +19,7 @@ impl Draft {
         if generators.len() != GENERATORS {
             return Err(DesignFault::TableLength);
         }
-        if !(2..=8).contains(&n) {
+        if !(2..=MAX_COUNT).contains(&n) {
             return Err(DesignFault::GeneratorCount);
         }
         tables::clear(generators);
