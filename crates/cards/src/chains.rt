@@ -1,6 +1,7 @@
 // The heads and records of the generators, in a buffer.
 // Here and in `write`, each cast to u8 is proved to lose nothing; `u8::try_from` would need an `unwrap` beside it.
 ghost use Rattle.std.specs.Prelude.{◌≡◌, ℕ, ◌+◌, ◌*◌, ◌<◌, ◌≤◌, List, map, length, unwrap_or};
+ghost use Rattle.fields.specs.Elements.{code_of};
 ghost use Rattle.cards.specs.Cards.{Term, terms, generators, records, heads, chains, term_count, link as links};
 ghost use Rattle.cards.specs.Overwriting.{over};
 
@@ -11,7 +12,7 @@ use tables::sizes::{GENERATORS, MAX_COUNT, WIDTH};
 
 // How many coefficients are not zero.
 fn count_terms<F: Field>(row: &[F]) -> usize
-    ensures value { result ≡ length (terms 0 (map (λ x. F.number (F.member x)) row.now)) }
+    ensures value { result ≡ length (terms 0 (map (code_of F.number F.member) row.now)) }
     ensures bound { result ≤ length row.now }
 {
     row.iter().filter(|x| x.code() != 0).count()
@@ -28,9 +29,9 @@ fn link(number: usize, left: usize) -> Option<u8>
 // Writes the records of one generator, numbered from a number on, from a place on, and answers the number after them.
 fn write_chain<F: Field>(row: &[F], first: usize, buffer: &mut [u8], place: usize) -> usize
     requires numbers { (length row.now ≤ WIDTH) × (first ≤ GENERATORS + 1) }
-    requires room { place + RECORD * length (terms 0 (map (λ x. F.number (F.member x)) row.now)) ≤ length buffer.old }
-    ensures next { result ≡ first + length (terms 0 (map (λ x. F.number (F.member x)) row.now)) }
-    ensures after { buffer.new ≡ over place (records first (terms 0 (map (λ x. F.number (F.member x)) row.now))) buffer.old }
+    requires room { place + RECORD * length (terms 0 (map (code_of F.number F.member) row.now)) ≤ length buffer.old }
+    ensures next { result ≡ first + length (terms 0 (map (code_of F.number F.member) row.now)) }
+    ensures after { buffer.new ≡ over place (records first (terms 0 (map (code_of F.number F.member) row.now))) buffer.old }
 {
     // Each record points to the one after it, so what is left is counted down.
     let mut left = count_terms(row);
@@ -56,9 +57,9 @@ fn write_chain<F: Field>(row: &[F], first: usize, buffer: &mut [u8], place: usiz
 // Writes the heads of the first n generators, 0 for one that is zero, and answers how many terms these have in all.
 pub fn write_heads<F: Field>(n: usize, table: &[F], buffer: &mut [u8]) -> usize
     requires { (n ≤ MAX_COUNT) × ((length table.now ≡ GENERATORS) × (length buffer.old ≡ CARD)) }
-    ensures count { result ≡ term_count (generators n (map (λ x. F.number (F.member x)) table.now)) }
+    ensures count { result ≡ term_count (generators n (map (code_of F.number F.member) table.now)) }
     ensures bound { result ≤ WIDTH * n }
-    ensures after { buffer.new ≡ over HEADER (heads 1 (generators n (map (λ x. F.number (F.member x)) table.now))) buffer.old }
+    ensures after { buffer.new ≡ over HEADER (heads 1 (generators n (map (code_of F.number F.member) table.now))) buffer.old }
 {
     // The number runs on from row to row: in a chain a closure would change it, and of its answers a proof knows nothing then.
     let mut next = 1;
@@ -73,7 +74,7 @@ pub fn write_heads<F: Field>(n: usize, table: &[F], buffer: &mut [u8]) -> usize
 // Writes the records of the first n generators, after their heads.
 pub fn write_chains<F: Field>(n: usize, table: &[F], buffer: &mut [u8])
     requires { (n ≤ MAX_COUNT) × ((length table.now ≡ GENERATORS) × (length buffer.old ≡ CARD)) }
-    ensures { buffer.new ≡ over (HEADER + n) (chains 1 (generators n (map (λ x. F.number (F.member x)) table.now))) buffer.old }
+    ensures { buffer.new ≡ over (HEADER + n) (chains 1 (generators n (map (code_of F.number F.member) table.now))) buffer.old }
 {
     let mut next = 1;
     for row in table[..WIDTH * n].chunks_exact(WIDTH) {

@@ -1,6 +1,7 @@
 // The calls on a draft.
 ghost use Rattle.std.specs.Prelude.{◌≡◌, length, MatchResult};
 ghost use Rattle.std.specs.Result.{result_err};
+ghost use Rattle.fields.specs.Elements.{code_of};
 ghost use Rattle.fields.specs.Questions.{first_no};
 ghost use Rattle.tables.specs.Places.{Cleared};
 ghost use Rattle.design.specs.Drafts.{begin_questions, Puts};
@@ -34,7 +35,7 @@ impl Draft {
         power: usize,
         code: u32,
     ) -> Result<(), DesignFault>
-        ensures { Puts (λ x. F.number (F.member x)) F.order self.now.n i power code generators.old result generators.new }
+        ensures { Puts (code_of F.number F.member) F.order self.now.n i power code generators.old result generators.new }
     {
         if generators.len() != GENERATORS {
             return Err(DesignFault::TableLength);
