@@ -26,7 +26,7 @@ fn link(number: usize, left: usize) -> Option<u8>
     (left > 0).then_some(number as u8)
 }
 
-// Writes the records of one generator, numbered from a number on, from a place on, and answers the number after them.
+// Writes the records of one generator from a place on, the first of them with the number `first`, and answers the number after the last.
 fn write_chain<F: Field>(row: &[F], first: usize, buffer: &mut [u8], place: usize) -> usize
     requires numbers { (length row.now ≤ WIDTH) × (first ≤ GENERATORS + 1) }
     requires room { place + RECORD * length (terms 0 (map (code_of F.number F.member) row.now)) ≤ length buffer.old }

@@ -87,7 +87,7 @@ impl<'a> Card<'a> {
         Ok(Some(HEADER + self.n() + RECORD * before))
     }
 
-    // Reads the record that starts at a place, where it may stand in a chain above the floor.
+    // Reads the record that starts at a place. In its chain it may stand where its power is at least the floor.
     fn coefficient<F: Field>(&self, start: usize, floor: usize) -> Result<Coefficient<F>, CardFault>
         requires { start + RECORD ≤ length self.now.bytes.now }
         ensures answer { result_err result ≡ first_no (record_questions F.order self.now.bytes.now floor start) }
@@ -111,7 +111,7 @@ impl<'a> Card<'a> {
     }
 }
 
-// Walks the chain that the link at a place enters, and enters its terms into a row, which was zero.
+// Walks the chain that the link at a place enters, its powers from the floor on, and enters its terms into a row, which was zero.
 fn read_chain<F: Field>(
     card: &Card,
     place: usize,

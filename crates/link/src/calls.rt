@@ -21,7 +21,8 @@ use tables::sizes::{FRAME, GENERATORS, MAX_COUNT, WIDTH};
 // The longest message.
 pub const SYMBOLS: usize = 4096;
 
-// Asks the questions of a call: of its table's length and exact length, the divisor, and the lengths of message and block.
+// Asks the questions of a call: is its table exactly as long as it must be, is the divisor 1, do the symbols of the message and the
+// length of the block fit the design.
 fn ask(
     framed: &Framed,
     exact: usize,

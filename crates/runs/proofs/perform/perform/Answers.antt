@@ -2,22 +2,12 @@ use Rattle.std.proofs.Common.{List, vec_items, subst, arith}
 use Rattle.std.specs.Vec.Iter.{into_iter_items}
 use Rattle.std.proofs.lemmas.List.{nil_from_length}
 use Rattle.fields.specs.Elements.{code_of}
-use Rattle.history.proofs.Runs.{leads_start, leads_next, leads_end}
+use Rattle.history.proofs.Runs.{leads_next, leads_end}
 use Rattle.runs.proofs.Safe.{safe_run}
 use Rattle.runs.specs.declared.request.Request.{Request}
 use Rattle.history.specs.Runs.{Performs}
 use Rattle.runs.specs.Steps.{Step, held}
 use Rattle.runs.proofs.perform.perform.Goals as goal
-
-pub loop-request-init : goal.loop-request-init
-loop-request-init g c =
-    let made = c.in-Ok.ensures in
-    let counted = c.into_iter-request-iterator.ensures.into_iter_gives.1 in
-    let long = c.len.ensures in
-    (let none = made.len in let room = made.capacity in omega arith, leads_start _ _ _ (vec_items c.in-Ok.answers) made.items)
-
-pub push_reserved-requires : goal.push_reserved-requires
-push_reserved-requires g c = let room = c.loop-request.invariant.0 in let step = c.in-Some.ensures.steps.1 in omega arith
 
 pub loop-request-preserved : goal.loop-request-preserved
 loop-request-preserved g c =

@@ -1,32 +1,12 @@
 use Rattle.std.proofs.Common.{length, sym, ap, ◌∙◌, arith}
-use Rattle.std.specs.Iterator.Adapters.{enumerate_source, enumerate_count}
-use Rattle.std.specs.Slice.Iter.{chunks_exact_rest, chunks_exact_size}
+use Rattle.std.specs.Iterator.Adapters.{enumerate_count}
 use Rattle.algebra.specs.Series.{series}
 use Rattle.framing.specs.Framing.{column_in}
 use Rattle.tables.specs.Places.{at}
 use Rattle.link.specs.Blocks.{stream}
-use Rattle.link.proofs.Columns.{components_from, components_first, next_component, components_done}
+use Rattle.link.proofs.Columns.{components_from, next_component, components_done}
 use Rattle.link.proofs.Terms.{streams, streams_more, streams_all}
 use Rattle.link.proofs.products.Streams.combination.Goals as goal
-
-pub loop-i-init : goal.loop-i-init
-loop-i-init g c =
-    let both = c.into_iter-i-iterator.ensures.into_iter_gives in
-    let start = c.enumerate-i-items.ensures in
-    let none = ap enumerate_count both ∙ start.count in (
-      ap (λ z. chunks_exact_size (enumerate_source z)) both ∙ ap chunks_exact_size start.source ∙ c.chunks_exact.ensures.size,
-      components_first g.F.Field.ops g.F.Field.member c.args.frame.now c.args.self.now.n c.args.j _ _ none (ap (λ z. chunks_exact_rest (enumerate_source z)) both ∙ ap chunks_exact_rest start.source ∙ c.chunks_exact.ensures.rest),
-      omega (arith, none),
-      c.zero-sum.ensures
-          ∙ ap (streams g.F.Field.ops (stream g.F.Field.ops g.F.Field.member c.args.self.now.n c.args.self.now.symbols.now) (column_in g.F.Field.ops g.F.Field.member c.args.frame.now c.args.j) c.args.t) (sym none),
-    )
-
-pub coefficient-requires : goal.coefficient-requires
-coefficient-requires g c =
-    let f = g.F.Field in
-    let steps = c.in-Some.ensures.steps in
-    let next = next_component f.ops f.member c.args.frame.now c.args.self.now.n c.args.j (omega arith) _ _ _ (sym c.loop-i.invariant.1 ∙ steps.0.1.0) (steps.0.1.1 ∙ c.loop-i.invariant.0) in
-    omega (arith, next)
 
 pub loop-i-preserved : goal.loop-i-preserved
 loop-i-preserved g c =
