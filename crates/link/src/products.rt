@@ -52,11 +52,10 @@ impl<'a, F: Field> Streams<'a, F> {
         ensures { F.member result ≡ dot (series F.ops) self.now.n (stream F.ops F.member self.now.n self.now.symbols.now) (column_in F.ops F.member frame.now j) t }
     {
         let column = &frame[GENERATORS * j..][..WIDTH * self.n];
-        let mut sum = F::zero();
-        for (i, polynomial) in column.chunks_exact(WIDTH).enumerate() {
-            sum = sum.add(self.coefficient(i, polynomial, t));
-        }
-        sum
+        column.chunks_exact(WIDTH).enumerate().fold(
+            F::zero(),
+            |sum, (i, polynomial)| sum.add(self.coefficient(i, polynomial, t)),
+        )
     }
 
     // Whether the sum of column j of a frame has no s^t.
