@@ -2,6 +2,7 @@
 use Rattle.std.proofs.Common.{◌≡◌, ℕ, zero, suc, ◌+◌, ◌*◌, ◌<◌, List, [], ◌∷◌, ◌++◌, length, get_or, replicate, sym, refl, ap, ◌∙◌, subst, arith, length-append}
 use native.Mathlib.Decide.{ℕ_discrete}
 use Rattle.std.proofs.lemmas.List.{get_or_past}
+use Rattle.std.proofs.Math.Seq.{get_or-append_seam}
 use Rattle.algebra.specs.Rings.{RingOps}
 use Rattle.tables.specs.Places.{at, Cleared}
 use Rattle.cards.specs.declared.fault.CardFault.{CardFault}
@@ -9,17 +10,11 @@ use Rattle.cards.specs.Cards.{Term}
 use Rattle.cards.specs.Chains.{byte, Chain, Chains, power_code}
 use Rattle.cards.specs.Reading.{Stops, Entered, Gathered, Halted}
 
-get_d_last : {X : Type 0} (xs : List X) (x d : X) (k : ℕ) → k ≡ length xs → get_or (xs ++ x ∷ []) k d ≡ x
-get_d_last [] x d zero e = refl
-get_d_last [] x d (suc k) e = absurd (omega arith)
-get_d_last (y ∷ xs) x d zero e = absurd (omega arith)
-get_d_last (y ∷ xs) x d (suc k) e = get_d_last xs x d k (omega arith)
-
-get_d_not_last : {X : Type 0} (xs : List X) (x d : X) (k : ℕ) → (k ≡ length xs → ⊥) → get_or (xs ++ x ∷ []) k d ≡ get_or xs k d
-get_d_not_last [] x d zero h = absurd (h refl)
-get_d_not_last [] x d (suc k) h = refl
-get_d_not_last (y ∷ xs) x d zero h = refl
-get_d_not_last (y ∷ xs) x d (suc k) h = get_d_not_last xs x d k (λ e. h (ap suc e))
+get_or_not_last : {X : Type 0} (xs : List X) (x d : X) (k : ℕ) → (k ≡ length xs → ⊥) → get_or (xs ++ x ∷ []) k d ≡ get_or xs k d
+get_or_not_last [] x d zero h = absurd (h refl)
+get_or_not_last [] x d (suc k) h = refl
+get_or_not_last (y ∷ xs) x d zero h = refl
+get_or_not_last (y ∷ xs) x d (suc k) h = get_or_not_last xs x d k (λ e. h (ap suc e))
 
 chains_more : (order : ℕ) (card : List ℕ) (place last : ℕ) (gs : List (List Term)) (ts : List Term) → last ≡ place + length gs → Chains order card place gs → Chain order card 0 last ts → Chains order card place (gs ++ ts ∷ [])
 chains_more order card place last [] ts e c d = (subst (λ (p : ℕ). Chain order card 0 p ts) (let z : last ≡ place = omega arith in z) d, tt)
@@ -45,10 +40,10 @@ module _ {F R : Type 0} (o : RingOps R) (member : F → R) (number : R → ℕ) 
       row : (i k : ℕ) → k < 17 → Dec (i ≡ n) → number (at o member after (17 * i + k)) ≡ power_code (get_or (all.generators ++ one.terms ∷ []) i []) k
       row i k h (yes e) =
           ap (λ j. number (at o member after (17 * j + k))) e ∙ one.row k h
-          ∙ ap (λ ts. power_code ts k) (sym (get_d_last all.generators one.terms [] i (e ∙ sym all.count)))
+          ∙ ap (λ ts. power_code ts k) (sym (ap (λ j. get_or (all.generators ++ one.terms ∷ []) j []) (e ∙ sym all.count) ∙ get_or-append_seam all.generators one.terms [] []))
       row i k h (no ne) =
           ap number (one.others i k h ne) ∙ all.holds i k h
-          ∙ ap (λ ts. power_code ts k) (sym (get_d_not_last all.generators one.terms [] i (λ e. ne (e ∙ all.count))))
+          ∙ ap (λ ts. power_code ts k) (sym (get_or_not_last all.generators one.terms [] i (λ e. ne (e ∙ all.count))))
 
   pub halted_here : (n : ℕ) (table : List F) (f : CardFault) → n < byte card 1 → Gathered o member number order card n table → (ts : List Term) × Stops order card ts 0 (3 + n) f → Halted order card f
   halted_here n table f h all stop =

@@ -1,5 +1,5 @@
 -- A card has one reading: a chain has one list of terms, and no refusal. Assumes nothing.
-use Rattle.std.proofs.Common.{◌≡◌, ℕ, zero, suc, ◌+◌, ◌<◌, ◌≤◌, Bool, true, ltb, leb, List, [], ◌∷◌, length, get_or, Some, None, Option, sym, refl, ap, ◌∙◌, subst, ap₂, arith, lt-ltb, le-leb}
+use Rattle.std.proofs.Common.{◌≡◌, ℕ, zero, suc, ◌+◌, ◌<◌, ◌≤◌, Bool, true, ltb, leb, List, [], ◌∷◌, length, get_or, None, sym, refl, ap, ◌∙◌, subst, ap₂, arith, lt-ltb, le-leb}
 use Rattle.fields.specs.Questions.{Question, asks, first_no}
 use Rattle.fields.specs.declared.fault.FieldFault.TheVariants.{CodeTooLarge}
 use Rattle.cards.specs.declared.fault.CardFault.{CardFault}
@@ -11,9 +11,6 @@ use Rattle.cards.proofs.Walks.{link_record, link_zero}
 
 term_path : (t u : Term) → t.power ≡ u.power → t.code ≡ u.code → t ≡ u
 term_path t u p q = ap₂ (λ (a b : ℕ). let w : Term = record { power = a; code = b } in w) p q
-
-pub some_not_none : {X : Type 0} (x : X) (o : Option X) → o ≡ Some x → o ≡ None → ⊥
-some_not_none x o p q = let z : ◌≡◌ {A = ℕ} 0 1 = cc in omega arith
 
 -- a question that is answered yes is passed
 pub yes_first : {E : Type 0} (b : Bool) (e : E) (qs : List (Question E)) → b ≡ true → first_no (asks b e ∷ qs) ≡ first_no qs
@@ -60,9 +57,9 @@ module _ (order : ℕ) (card : List ℕ) where
       ∙ yes_first (ltb 0 (code_at card (start + 1))) (ZeroCode (start + 1)) [] (lt-ltb 0 (code_at card (start + 1)) some)
 
   pub chain_never_stops : (floor place : ℕ) (ts us : List Term) (f : CardFault) → Chain order card floor place ts → Stops order card us floor place f → ⊥
-  chain_never_stops floor place [] [] f c s = some_not_none f (first_no (link_questions order card floor place)) s (link_zero order card floor place c)
+  chain_never_stops floor place [] [] f c s = let none = link_zero order card floor place c in cc
   chain_never_stops floor place [] (u ∷ us) f c s = let h = s.0.from_one in omega arith
-  chain_never_stops floor place (t ∷ ts) [] f c s = some_not_none f (first_no (link_questions order card floor place)) s (named_none floor place t c.0)
+  chain_never_stops floor place (t ∷ ts) [] f c s = let none = named_none floor place t c.0 in cc
   chain_never_stops floor place (t ∷ ts) (u ∷ us) f c s =
       let same : t ≡ u = names_once floor floor place t u c.0 s.0 in
       chain_never_stops (suc t.power) (record_start card place + 3) ts us f c.1 (subst (λ (x : Term). Stops order card us (suc x.power) (record_start card place + 3) f) (sym same) s.1)

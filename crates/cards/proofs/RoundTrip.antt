@@ -10,8 +10,8 @@ use Rattle.cards.specs.Cards.{Term, terms, generators, heads, chains, term_count
 use Rattle.cards.specs.Chains.{Chains, power_code}
 use Rattle.cards.specs.Reading.{read_questions, Grants, Refuses, Refuses.asked, Refuses.walked}
 use Rattle.cards.specs.RoundTrip.{ReadsBack}
-use Rattle.std.proofs.lemmas.List.{get_or_past}
-use Rattle.cards.proofs.OneReading.{yes_first, some_not_none, chains_once, chains_never_halt}
+use Rattle.std.proofs.lemmas.List.{get_or_past, length-take}
+use Rattle.cards.proofs.OneReading.{yes_first, chains_once, chains_never_halt}
 use Rattle.cards.proofs.Whole.{length_generators, length_heads, length_card}
 use Rattle.cards.proofs.WrittenChains.{Sound, AllSound, written_chains}
 
@@ -23,11 +23,6 @@ sound_terms : (order : ℕ) (cs : List ℕ) (floor k : ℕ) → AllBelow order c
 sound_terms order [] floor k below h long = tt
 sound_terms order (zero ∷ cs) floor k below h long = sound_terms order cs floor (suc k) (λ i. below (suc i)) (omega arith) (omega arith)
 sound_terms order (suc c ∷ cs) floor k below h long = (h, omega arith, below 0, omega arith, sound_terms order cs (suc k) (suc k) (λ i. below (suc i)) (omega arith) (omega arith))
-
-length_first : (n : ℕ) (cs : List ℕ) → length (take n cs) ≤ n
-length_first zero cs = omega arith
-length_first (suc n) [] = omega arith
-length_first (suc n) (c ∷ cs) = let h = length_first n cs in omega arith
 
 below_take : (order n : ℕ) (cs : List ℕ) → 0 < order → AllBelow order cs → AllBelow order (take n cs)
 below_take order zero cs some below k = some
@@ -41,7 +36,7 @@ below_drop order n cs below k = subst (λ (x : ℕ). x < order) (sym (get_or-dro
 sound_generators : (order n : ℕ) (cs : List ℕ) → 0 < order → AllBelow order cs → AllSound order (generators n cs)
 sound_generators order zero cs some below = tt
 sound_generators order (suc n) cs some below =
-    (sound_terms order (take 17 cs) 0 0 (below_take order 17 cs some below) (omega arith) (let h = length_first 17 cs in omega arith), sound_generators order n (drop 17 cs) some (below_drop order 17 cs below))
+    (sound_terms order (take 17 cs) 0 0 (below_take order 17 cs some below) (omega arith) (omega (arith, length-take 17 cs)), sound_generators order n (drop 17 cs) some (below_drop order 17 cs below))
 
 -- the sum of the terms of a list of codes has those codes
 power_below : (cs : List ℕ) (j k : ℕ) → k < j → power_code (terms j cs) k ≡ 0
@@ -115,7 +110,7 @@ module _ {F R : Type 0} (o : RingOps R) (member : F → R) (number : R → ℕ) 
       entered = card_chains order kind (generators n (codes table)) (sound_generators order n (codes table) some (codes_below table))
 
       refused : (f : CardFault) → Refuses order kind (card kind (generators n (codes table))) 136 f → ⊥
-      refused f (asked e) = some_not_none f _ e (card_asked kind (generators n (codes table)) (omega (arith, counted)) (omega (arith, counted)))
+      refused f (asked e) = let passed = card_asked kind (generators n (codes table)) (omega (arith, counted)) (omega (arith, counted)) in cc
       refused f (walked e h) = chains_never_halt order (card kind (generators n (codes table))) (generators n (codes table)) f refl entered h
 
       holds : (m : ℕ) (after : List F) (g : Grants o member number order kind (card kind (generators n (codes table))) 136 m after) (i k : ℕ) → k < 17 → number (at o member after (17 * i + k)) ≡ power_code (get_or (generators n (codes table)) i []) k

@@ -16,11 +16,11 @@ module _ {E : Type 0} where
   -- no question is answered no: each is answered yes
   first_yes : (b : Bool) (e : E) (qs : List (Question E)) → None ≡ first_no (asks b e ∷ qs) → b ≡ true
   first_yes true e qs h = refl
-  first_yes false e qs h = let z : ◌≡◌ {A = ℕ} 0 1 = cc in absurd (omega arith)
+  first_yes false e qs h = cc
 
   rest_yes : (b : Bool) (e : E) (qs : List (Question E)) → None ≡ first_no (asks b e ∷ qs) → None ≡ first_no qs
   rest_yes true e qs h = h
-  rest_yes false e qs h = let z : ◌≡◌ {A = ℕ} 0 1 = cc in absurd (omega arith)
+  rest_yes false e qs h = cc
 
 module _ (order : ℕ) (card : List ℕ) (floor : ℕ) where
   -- a link above m

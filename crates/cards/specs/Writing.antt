@@ -11,7 +11,8 @@ abbrev pub write_questions : (table_length buffer_length : ℕ) → List (Questi
 write_questions table_length buffer_length =
     asks (table_length == 136) TableLength ∷ asks (buffer_length == 555) TableLength ∷ []
 
--- the first no is the refusal, and leaves the buffer as it was; else the buffer holds the card, then zeros, and the answer is the card's length
+-- the first no is the refusal, and leaves the buffer as it was; else the buffer holds the card, then zeros, and the answer is the
+-- card's length
 pub record Writes {F : Type 0} (code_of : F → ℕ) (kind n : ℕ) (table : List F) (before : List ℕ) (r : Result ℕ DesignFault) (after : List ℕ) : Type 0 where
   pub answer : result_err r ≡ first_no (write_questions (length table) (length before))
   pub card_then_zeros : MatchResult r (λ long. after ≡ card kind (generators n (map code_of table)) ++ replicate (555 - long) 0) (λ _. after ≡ before)

@@ -21,7 +21,7 @@ pub struct Record {
 
 impl Record {
     // Its bytes on a card: the code's low byte first, and 0 where no record follows.
-    fn to_bytes(self) -> [u8; 4]
+    fn to_bytes(self) -> [u8; RECORD]
         ensures { result ≡ self.power ∷ self.code % 256 ∷ self.code / 256 ∷ unwrap_or self.next 0 ∷ [] }
     {
         let [low, high] = self.code.to_le_bytes();
@@ -31,7 +31,7 @@ impl Record {
 
 // Writes one record from a place on.
 pub fn write_record(buffer: &mut [u8], at: usize, item: Record)
-    requires { at + 4 ≤ length buffer.old }
+    requires { at + RECORD ≤ length buffer.old }
     ensures { buffer.new ≡ over at (item.power ∷ item.code % 256 ∷ item.code / 256 ∷ unwrap_or item.next 0 ∷ []) buffer.old }
 {
     buffer[at..at + RECORD].copy_from_slice(&item.to_bytes());

@@ -1,16 +1,18 @@
 // The heads and records of the generators, in a buffer.
+// Here and in `write`, each cast to u8 is proved to lose nothing; `u8::try_from` would need an `unwrap` beside it.
 ghost use Rattle.std.specs.Prelude.{◌≡◌, ℕ, ◌+◌, ◌*◌, ◌<◌, ◌≤◌, List, map, length, unwrap_or};
+ghost use Rattle.fields.specs.Elements.{code_of};
 ghost use Rattle.cards.specs.Cards.{Term, terms, generators, records, heads, chains, term_count, link as links};
 ghost use Rattle.cards.specs.Overwriting.{over};
 
 use crate::bytes::{Record, write_record};
-use crate::sizes::{HEADER, RECORD};
+use crate::sizes::{CARD, HEADER, RECORD};
 use fields::field::Field;
-use tables::sizes::WIDTH;
+use tables::sizes::{GENERATORS, MAX_COUNT, WIDTH};
 
 // How many coefficients are not zero.
 fn count_terms<F: Field>(row: &[F]) -> usize
-    ensures value { result ≡ length (terms 0 (map (λ x. F.number (F.member x)) row.now)) }
+    ensures value { result ≡ length (terms 0 (map (code_of F.number F.member) row.now)) }
     ensures bound { result ≤ length row.now }
 {
     row.iter().filter(|x| x.code() != 0).count()
@@ -24,12 +26,12 @@ fn link(number: usize, left: usize) -> Option<u8>
     (left > 0).then_some(number as u8)
 }
 
-// Writes the records of one generator, numbered from a number on, from a place on, and answers the number after them.
+// Writes the records of one generator from a place on, the first of them with the number `first`, and answers the number after the last.
 fn write_chain<F: Field>(row: &[F], first: usize, buffer: &mut [u8], place: usize) -> usize
-    requires numbers { (length row.now ≤ 17) × (first ≤ 137) }
-    requires room { place + 4 * length (terms 0 (map (λ x. F.number (F.member x)) row.now)) ≤ length buffer.old }
-    ensures next { result ≡ first + length (terms 0 (map (λ x. F.number (F.member x)) row.now)) }
-    ensures after { buffer.new ≡ over place (records first (terms 0 (map (λ x. F.number (F.member x)) row.now))) buffer.old }
+    requires numbers { (length row.now ≤ WIDTH) × (first ≤ GENERATORS + 1) }
+    requires room { place + RECORD * length (terms 0 (map (code_of F.number F.member) row.now)) ≤ length buffer.old }
+    ensures next { result ≡ first + length (terms 0 (map (code_of F.number F.member) row.now)) }
+    ensures after { buffer.new ≡ over place (records first (terms 0 (map (code_of F.number F.member) row.now))) buffer.old }
 {
     // Each record points to the one after it, so what is left is counted down.
     let mut left = count_terms(row);
@@ -54,11 +56,12 @@ fn write_chain<F: Field>(row: &[F], first: usize, buffer: &mut [u8], place: usiz
 
 // Writes the heads of the first n generators, 0 for one that is zero, and answers how many terms these have in all.
 pub fn write_heads<F: Field>(n: usize, table: &[F], buffer: &mut [u8]) -> usize
-    requires { (n ≤ 8) × ((length table.now ≡ 136) × (length buffer.old ≡ 555)) }
-    ensures count { result ≡ term_count (generators n (map (λ x. F.number (F.member x)) table.now)) }
-    ensures bound { result ≤ 17 * n }
-    ensures after { buffer.new ≡ over 3 (heads 1 (generators n (map (λ x. F.number (F.member x)) table.now))) buffer.old }
+    requires { (n ≤ MAX_COUNT) × ((length table.now ≡ GENERATORS) × (length buffer.old ≡ CARD)) }
+    ensures count { result ≡ term_count (generators n (map (code_of F.number F.member) table.now)) }
+    ensures bound { result ≤ WIDTH * n }
+    ensures after { buffer.new ≡ over HEADER (heads 1 (generators n (map (code_of F.number F.member) table.now))) buffer.old }
 {
+    // The number runs on from row to row: in a chain a closure would change it, and of its answers a proof knows nothing then.
     let mut next = 1;
     for (i, row) in table[..WIDTH * n].chunks_exact(WIDTH).enumerate() {
         let count = count_terms(row);
@@ -70,8 +73,8 @@ pub fn write_heads<F: Field>(n: usize, table: &[F], buffer: &mut [u8]) -> usize
 
 // Writes the records of the first n generators, after their heads.
 pub fn write_chains<F: Field>(n: usize, table: &[F], buffer: &mut [u8])
-    requires { (n ≤ 8) × ((length table.now ≡ 136) × (length buffer.old ≡ 555)) }
-    ensures { buffer.new ≡ over (3 + n) (chains 1 (generators n (map (λ x. F.number (F.member x)) table.now))) buffer.old }
+    requires { (n ≤ MAX_COUNT) × ((length table.now ≡ GENERATORS) × (length buffer.old ≡ CARD)) }
+    ensures { buffer.new ≡ over (HEADER + n) (chains 1 (generators n (map (code_of F.number F.member) table.now))) buffer.old }
 {
     let mut next = 1;
     for row in table[..WIDTH * n].chunks_exact(WIDTH) {

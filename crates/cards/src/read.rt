@@ -3,6 +3,8 @@ ghost use Rattle.std.specs.Prelude.{◌≡◌, ℕ, ◌+◌, ◌*◌, ◌<◌, �
 ghost use Rattle.std.specs.Result.{result_err};
 ghost use Rattle.fields.specs.Questions.{first_no};
 ghost use Rattle.tables.specs.Places.{at, Cleared};
+ghost use Rattle.tables.specs.declared.sizes.TheConstants.{MAX_COUNT};
+ghost use Rattle.cards.specs.declared.sizes.TheConstants.{HEADER, RECORD};
 ghost use Rattle.cards.specs.declared.fault.CardFault.TheVariants.{NoSuchRecord};
 ghost use Rattle.cards.specs.Cards.{Term};
 ghost use Rattle.cards.specs.Chains.{byte, code_at, record_start};
@@ -13,7 +15,7 @@ use crate::sizes::{HEADER, RECORD};
 use design::draft::Draft;
 use design::fault::DesignFault;
 use fields::field::Field;
-use tables::sizes::{GENERATORS, WIDTH};
+use tables::sizes::{GENERATORS, MAX_COUNT, WIDTH};
 
 // What a record holds.
 #[derive(Clone, Copy)]
@@ -26,9 +28,9 @@ pub struct Coefficient<F: Field> {
 #[derive(Clone, Copy)]
 struct Card<'a> {
     bytes: &'a [u8],
-    ghost sized: { length bytes.now ≡ 3 + byte bytes.now 1 + 4 * byte bytes.now 2 },
+    ghost sized: { length bytes.now ≡ HEADER + byte bytes.now 1 + RECORD * byte bytes.now 2 },
     ghost low: { 2 ≤ byte bytes.now 1 },
-    ghost high: { byte bytes.now 1 ≤ 8 },
+    ghost high: { byte bytes.now 1 ≤ MAX_COUNT },
 }
 
 impl<'a> Card<'a> {
@@ -36,7 +38,7 @@ impl<'a> Card<'a> {
     fn parse<F: Field>(bytes: &'a [u8], long: usize) -> Result<Card<'a>, CardFault>
         ensures answer { result_err result ≡ first_no (read_questions F.tag long bytes.now) }
         ensures value { IfOk result (λ card. card.bytes.now ≡ bytes.now) }
-        ensures room { OnOk result (long ≡ 136) }
+        ensures room { OnOk result (long ≡ GENERATORS) }
     {
         if long != GENERATORS {
             return Err(CardFault::Design(DesignFault::TableLength));
@@ -50,7 +52,7 @@ impl<'a> Card<'a> {
         if *kind != F::kind() {
             return Err(CardFault::Kind);
         }
-        if !(2..=8).contains(n) {
+        if !(2..=MAX_COUNT).contains(&usize::from(*n)) {
             return Err(CardFault::GeneratorCount);
         }
         Ok(Card { bytes })
@@ -85,9 +87,9 @@ impl<'a> Card<'a> {
         Ok(Some(HEADER + self.n() + RECORD * before))
     }
 
-    // Reads the record that starts at a place, where it may stand in a chain above the floor.
+    // Reads the record that starts at a place. In its chain it may stand where its power is at least the floor.
     fn coefficient<F: Field>(&self, start: usize, floor: usize) -> Result<Coefficient<F>, CardFault>
-        requires { start + 4 ≤ length self.now.bytes.now }
+        requires { start + RECORD ≤ length self.now.bytes.now }
         ensures answer { result_err result ≡ first_no (record_questions F.order self.now.bytes.now floor start) }
         ensures value { IfOk result (λ x. (x.power ≡ byte self.now.bytes.now start) × (F.number (F.member x.element) ≡ code_at self.now.bytes.now (start + 1))) }
         ensures low { IfOk result (λ x. x.power ≤ 16) }
@@ -109,7 +111,7 @@ impl<'a> Card<'a> {
     }
 }
 
-// Walks the chain that the link at a place enters, and enters its terms into a row, which was zero.
+// Walks the chain that the link at a place enters, its powers from the floor on, and enters its terms into a row, which was zero.
 fn read_chain<F: Field>(
     card: &Card,
     place: usize,
@@ -117,8 +119,8 @@ fn read_chain<F: Field>(
     row: &mut [F],
 ) -> Result<(), CardFault>
     requires within { place < length card.now.bytes.now }
-    requires room { length row.old ≡ 17 }
-    requires zeros { (k : ℕ) → k < 17 → F.number (at F.ops F.member row.old k) ≡ 0 }
+    requires room { length row.old ≡ WIDTH }
+    requires zeros { (k : ℕ) → k < WIDTH → F.number (at F.ops F.member row.old k) ≡ 0 }
     ensures { MatchResult result (λ _. Entered F.ops F.member F.number F.order card.now.bytes.now floor place 0 row.old row.new) (λ f. (ts : List Term) × Stops F.order card.now.bytes.now ts floor place f) }
 {
     let Some(start) = card.linked(place)? else {
@@ -132,7 +134,7 @@ fn read_chain<F: Field>(
 
 // Walks the chains of all heads, and enters their terms into a table, which was zero.
 fn read_chains<F: Field>(card: &Card, table: &mut [F]) -> Result<(), CardFault>
-    requires room { length table.old ≡ 136 }
+    requires room { length table.old ≡ GENERATORS }
     requires cleared { Cleared F.ops F.member table.old }
     ensures { MatchResult result (λ _. Gathered F.ops F.member F.number F.order card.now.bytes.now (byte card.now.bytes.now 1) table.new) (λ f. Halted F.order card.now.bytes.now f) }
 {
@@ -150,7 +152,7 @@ fn take_design<F: Field>(
     table: &mut [F],
     generators: &mut [F],
 ) -> Result<Draft, CardFault>
-    requires room { (length table.old ≡ 136) × (length generators.old ≡ 136) }
+    requires room { (length table.old ≡ GENERATORS) × (length generators.old ≡ GENERATORS) }
     requires cleared { Cleared F.ops F.member table.old }
     ensures { MatchResult result (λ d. (d.n ≡ byte card.now.bytes.now 1) × Gathered F.ops F.member F.number F.order card.now.bytes.now (byte card.now.bytes.now 1) generators.new) (λ f. Halted F.order card.now.bytes.now f × (generators.new ≡ generators.old)) }
 {

@@ -1,5 +1,5 @@
 // How long a card and its parts are, in bytes.
-use tables::sizes::GENERATORS;
+use tables::sizes::{GENERATORS, MAX_COUNT};
 
 // Kind, n and m, which stand before the heads.
 pub const HEADER: usize = 3;
@@ -8,4 +8,4 @@ pub const HEADER: usize = 3;
 pub const RECORD: usize = 4;
 
 // The longest card: eight heads, and a record for each coefficient.
-pub const CARD: usize = HEADER + 8 + RECORD * GENERATORS;
+pub const CARD: usize = HEADER + MAX_COUNT + RECORD * GENERATORS;

@@ -1,5 +1,6 @@
 // Writing a card.
 ghost use Rattle.std.specs.Prelude.{take, IfOk};
+ghost use Rattle.fields.specs.Elements.{code_of};
 ghost use Rattle.cards.specs.RoundTrip.{ReadsBack};
 ghost use Rattle.cards.specs.Writing.{Writes};
 
@@ -12,12 +13,13 @@ use fields::field::Field;
 use tables::sizes::GENERATORS;
 
 // Writes the card of a design into a buffer of 555 bytes, and answers its length; zeros follow.
+// The caller lends the buffer, since no memory is asked for here; only the length says where the card ends in it.
 pub fn write_card<F: Field>(
     draft: &Draft,
     generators: &[F],
     buffer: &mut [u8],
 ) -> Result<usize, DesignFault>
-    ensures written { Writes (λ x. F.number (F.member x)) F.tag draft.now.n generators.now buffer.old result buffer.new }
+    ensures written { Writes (code_of F.number F.member) F.tag draft.now.n generators.now buffer.old result buffer.new }
     ensures read_back { IfOk result (λ long. ReadsBack F.ops F.member F.number F.order F.tag draft.now.n generators.now (take long buffer.new)) }
 {
     if generators.len() != GENERATORS || buffer.len() != CARD {

@@ -32,7 +32,8 @@ refusal (Err e) = Some e.fault
 abbrev pub frame_questions : (generators frame work : ℕ) → List (Question DesignFault)
 frame_questions generators frame work = asks (generators == 136 && (frame == 1105 && work == 4521)) TableLength ∷ []
 
--- granted: the frame table holds the frame of the generators, which is degree-optimal, the design keeps its numbers, and the work table is zero
+-- granted: the frame table holds the frame of the generators, which is degree-optimal, the design keeps its numbers, and the work table
+-- is zero
 pub record Frames {F R : Type 0} (o : RingOps R) (member : F → R) (n : ℕ) (generators frame work frame_after work_after : List F) (count degree divisor columns : ℕ) : Type 0 where
   pub asked : first_no (frame_questions (length generators) (length frame) (length work)) ≡ None
   pub same_count : count ≡ n

@@ -24,8 +24,8 @@ fault_of (Check j) = CheckColumn j
 fault_of Degrees = ColumnDegrees
 fault_of Leading = LeadingVector
 
--- granted: the frame table holds the first n rows and columns of the offered table, the divisor, and zero elsewhere; the design keeps the numbers of the frame, which
--- stands; and the work table is zero
+-- granted: the frame table holds the first n rows and columns of the offered table, the divisor, and zero elsewhere; the design keeps
+-- the numbers of the frame, which stands; and the work table is zero
 pub record Offers {F R : Type 0} (o : RingOps R) (member : F → R) (n : ℕ) (generators offered frame work frame_after work_after : List F) (count degree divisor columns : ℕ) : Type 0 where
   pub asked : first_no (offer_questions (length generators) (length offered) (length frame) (length work)) ≡ None
   pub same_count : count ≡ n

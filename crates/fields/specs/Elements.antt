@@ -1,5 +1,5 @@
 -- What a field's calls promise, over the members that its elements mean. The clauses of `Field` cite it; it assumes nothing.
-use Rattle.std.specs.Prelude.{◌≡◌, Bool, true, false, Some, None, Option}
+use Rattle.std.specs.Prelude.{◌≡◌, ℕ, Bool, true, false, Some, None, Option}
 use Rattle.algebra.specs.Rings.{RingOps}
 
 -- the inverse of x, absent for zero only
@@ -11,3 +11,7 @@ Inverts o x (Some y) = o.product x y ≡ o.one
 abbrev pub Same : {R : Type 0} → R → R → Bool → Type 0
 Same x y true = x ≡ y
 Same x y false = x ≡ y → ⊥
+
+-- the code of an element: the number of the member that it means
+abbrev pub code_of : {F R : Type 0} → (R → ℕ) → (F → R) → F → ℕ
+code_of number member = λ x. number (member x)

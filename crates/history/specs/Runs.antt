@@ -1,4 +1,4 @@
--- Runs of calls on one design, by any relation of one step. The clauses of `perform`, of `history` and of `runs`, cite it; it assumes nothing.
+-- Runs of calls on one design, by any relation of one step. The clauses of `perform`, here and in `runs`, cite it; it assumes nothing.
 use Rattle.std.specs.Prelude.{ℕ, List, [], ◌∷◌}
 use Rattle.design.specs.Drafts.{Puts}
 use Rattle.history.specs.declared.request.Request.{Request}

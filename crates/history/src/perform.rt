@@ -1,5 +1,6 @@
 // The call that performs a list of requests, and the theorem on runs.
 ghost use Rattle.std.specs.Prelude.{◌≡◌, MatchResult};
+ghost use Rattle.fields.specs.Elements.{code_of};
 ghost use Rattle.history.specs.Runs.{Step, Performs};
 
 use crate::request::{Answer, Request};
@@ -16,7 +17,7 @@ pub struct Performed {
 
 // Performs one request.
 fn perform_one<F: Field>(draft: &Draft, generators: &mut [F], request: &Request) -> Answer
-    ensures { Step (λ x. F.number (F.member x)) F.order draft.now.n request.now generators.old result generators.new }
+    ensures { Step (code_of F.number F.member) F.order draft.now.n request.now generators.old result generators.new }
 {
     match request {
         Request::Put { i, power, code } => Answer::Put(draft.put(generators, *i, *power, *code)),
@@ -31,7 +32,7 @@ pub fn perform<F: Field>(
     requests: &[Request],
 ) -> Result<Performed, AllocFailed<Draft>>
     ensures draft { MatchResult result (λ p. p.draft ≡ draft) (λ e. e.value ≡ draft) }
-    ensures run { MatchResult result (λ p. Performs (Step (λ x. F.number (F.member x)) F.order draft.n) requests.now generators.old p.answers.items generators.new) (λ _. generators.new ≡ generators.old) }
+    ensures run { MatchResult result (λ p. Performs (Step (code_of F.number F.member) F.order draft.n) requests.now generators.old p.answers.items generators.new) (λ _. generators.new ≡ generators.old) }
 {
     let Ok(mut answers) = Vec::with_capacity(heap, requests.len()) else {
         return Err(AllocFailed { value: draft });

@@ -1,5 +1,6 @@
 pub mod Cleanness
 pub mod Columns
+pub mod Combinations
 pub mod Guarantees
 pub mod Places
 pub mod Ranges

@@ -1,5 +1,5 @@
--- The member at a place of a part of a table. Main results: part_of (the polynomial in a part), at_put_mid and at_before (a table after a part of it
--- was written).
+-- The member at a place of a part of a table. Main results: part_of (the polynomial in a part), at_put_mid and at_before (a table after
+-- a part of it was written).
 use Rattle.std.proofs.Common.{◌≡◌, ℕ, ◌+◌, ◌-◌, ◌<◌, ◌≤◌, List, ◌++◌, length, take, drop, ap, ◌∙◌, arith}
 use borrow.Rule.Slice.PartMut.{put_mid, post_of}
 use Rattle.std.proofs.lemmas.List.{length-take, length-drop, take_all}

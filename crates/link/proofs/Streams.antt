@@ -1,5 +1,5 @@
--- Places of streams in a block. Main results: place_within, place_past and stream_past (which places are in the block), time_written (a block
--- that is written one time after the other).
+-- Places of streams in a block. Main results: place_within, place_past and stream_past (which places are in the block), time_written
+-- (a block that is written one time after the other).
 use Rattle.std.proofs.Common.{◌≡◌, ℕ, suc, ◌+◌, ◌-◌, ◌*◌, ◌/◌, ◌<◌, ◌≤◌, List, length, take, drop, sym, refl, ap, ◌∙◌, add-one, mul-le-mul_left, mul-suc, arith}
 use mathlib.Core.Path.{fun_ext}
 use native.Mathlib.Decide.{dec_lt}

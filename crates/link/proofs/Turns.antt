@@ -1,5 +1,5 @@
--- The sum of a coefficient of a product, one turn of the loop at a time: the coefficients from low powers up meet the symbols from late times down.
--- Main results: met_first, met_next and met_all.
+-- The sum of a coefficient of a product, one turn of the loop at a time: the coefficients from low powers up meet the symbols from late
+-- times down. Main results: met_first, met_next and met_all.
 use Rattle.std.proofs.Common.{◌≡◌, ℕ, ◌+◌, ◌-◌, ◌*◌, ◌<◌, ◌≤◌, min, List, length, take, drop, sym, ap, ◌∙◌, arith}
 use native.Mathlib.Decide.{dec_lt}
 use Rattle.std.proofs.lemmas.List.{length-take, length-drop, drop_all, take_all}

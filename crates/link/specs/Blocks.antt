@@ -1,4 +1,5 @@
--- The tables of the link, read as series: coefficient t is the symbol at time t. The clauses of `products` and `calls` cite it; it assumes nothing.
+-- The tables of the link, read as series: coefficient t is the symbol at time t. The clauses of `products` and `calls` cite it; it
+-- assumes nothing.
 use Rattle.std.specs.Prelude.{◌≡◌, ℕ, ◌+◌, ◌-◌, ◌*◌, ◌<◌, Bool, true, false, List, length}
 use Rattle.algebra.specs.Rings.{RingOps}
 use Rattle.algebra.specs.Series.{series}

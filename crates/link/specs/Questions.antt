@@ -5,8 +5,8 @@ use Rattle.design.specs.declared.fault.DesignFault.TheVariants.{TableLength}
 use Rattle.link.specs.declared.fault.LinkFault.{LinkFault}
 use Rattle.link.specs.declared.fault.LinkFault.TheVariants.{Design, Divisor, Length}
 
--- A call on a design of n generators, degree d and divisor degree e, with a message of L symbols and a block of long, asks: has the table
--- its exact length, is the divisor's degree zero, is L from 1 to 4,096 and the block n (L + d) long.
+-- A call on a design of n generators, of degree d and divisor degree e, brings a table, a message of L symbols and a block. It asks: has
+-- the table its exact length, is the divisor's degree zero, is L from 1 to 4,096 and the block n (L + d) long.
 abbrev pub link_questions : (exact table n d e L long : ℕ) → List (Question LinkFault)
 link_questions exact table n d e L long =
     asks (table == exact) (Design TableLength)

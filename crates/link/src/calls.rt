@@ -16,12 +16,13 @@ use crate::products::Streams;
 use design::fault::DesignFault;
 use design::framed::Framed;
 use fields::field::Field;
-use tables::sizes::{FRAME, GENERATORS, WIDTH};
+use tables::sizes::{FRAME, GENERATORS, MAX_COUNT, WIDTH};
 
 // The longest message.
 pub const SYMBOLS: usize = 4096;
 
-// Asks the questions of a call: of its table's length and exact length, the divisor, and the lengths of message and block.
+// Asks the questions of a call: is its table exactly as long as it must be, is the divisor 1, do the symbols of the message and the
+// length of the block fit the design.
 fn ask(
     framed: &Framed,
     exact: usize,
@@ -30,7 +31,7 @@ fn ask(
     block: usize,
 ) -> Result<(), LinkFault>
     ensures answer { result_err result ≡ first_no (link_questions exact table framed.now.n framed.now.degree framed.now.divisor symbols block) }
-    ensures lengths { OnOk result ((table ≡ exact) × (1 ≤ symbols) × (symbols ≤ 4096) × (block ≡ framed.now.n * (symbols + framed.now.degree))) }
+    ensures lengths { OnOk result ((table ≡ exact) × (1 ≤ symbols) × (symbols ≤ SYMBOLS) × (block ≡ framed.now.n * (symbols + framed.now.degree))) }
 {
     if table != exact {
         return Err(LinkFault::Design(DesignFault::TableLength));
@@ -48,10 +49,11 @@ fn ask(
 
 // Writes the symbols of all streams at time t.
 fn encode_time<F: Field>(generators: &[F], message: &Streams<F>, symbols: &mut [F], t: usize)
-    requires table { (length generators.now ≡ 136) × (length symbols.old ≤ 8) }
+    requires table { (length generators.now ≡ GENERATORS) × (length symbols.old ≤ MAX_COUNT) }
     requires message { message.now.n ≡ 1 }
     ensures { (i : ℕ) → i < length symbols.old → at F.ops F.member symbols.new i ≡ (series F.ops).product (at F.ops F.member message.now.symbols.now) (generator_in F.ops F.member generators.now i) t }
 {
+    // The polynomial by its place: a proof knows nothing of what is written through `iter_mut` in a `zip` with the polynomials.
     for (i, symbol) in symbols.iter_mut().enumerate() {
         *symbol = message.coefficient(0, &generators[WIDTH * i..][..WIDTH], t);
     }
@@ -64,7 +66,7 @@ pub fn encode<F: Field>(
     message: &[F],
     block: &mut [F],
 ) -> Result<(), LinkFault>
-    ensures answer { result_err result ≡ first_no (link_questions 136 (length generators.now) framed.now.n framed.now.degree framed.now.divisor (length message.now) (length block.old)) }
+    ensures answer { result_err result ≡ first_no (link_questions GENERATORS (length generators.now) framed.now.n framed.now.degree framed.now.divisor (length message.now) (length block.old)) }
     ensures written { MatchResult result (λ _. Encoded F.ops F.member framed.now.n framed.now.degree generators.now message.now block.new) (λ _. block.new ≡ block.old) }
     ensures encodes { OnOk result (EncodesMessage F.ops F.member framed.now.n framed.now.degree generators.now message.now block.new) }
 {
@@ -95,7 +97,7 @@ pub fn invert<F: Field>(
     block: &[F],
     message: &mut [F],
 ) -> Result<(), LinkFault>
-    ensures answer { result_err result ≡ first_no (link_questions 1105 (length frame.now) framed.now.n framed.now.degree framed.now.divisor (length message.old) (length block.now)) }
+    ensures answer { result_err result ≡ first_no (link_questions FRAME (length frame.now) framed.now.n framed.now.degree framed.now.divisor (length message.old) (length block.now)) }
     ensures written { MatchResult result (λ _. Inverted F.ops F.member framed.now.n frame.now block.now message.new) (λ _. message.new ≡ message.old) }
     ensures home { OnOk result (BringsHome F.ops F.member framed.now.n framed.now.degree frame.now block.now message.new) }
     ensures changes { OnOk result (OneSymbolChangesFew F.ops F.member framed.now.n frame.now block.now message.new) }
@@ -114,7 +116,7 @@ pub fn invert<F: Field>(
 
 // Whether a block is clean: for each check column the sum over the streams of stream i times component i is zero.
 pub fn check<F: Field>(framed: &Framed, frame: &[F], block: &[F]) -> Result<bool, LinkFault>
-    ensures answer { result_err result ≡ first_no (link_questions 1105 (length frame.now) framed.now.n framed.now.degree framed.now.divisor (symbols_in framed.now.n framed.now.degree (length block.now)) (length block.now)) }
+    ensures answer { result_err result ≡ first_no (link_questions FRAME (length frame.now) framed.now.n framed.now.degree framed.now.divisor (symbols_in framed.now.n framed.now.degree (length block.now)) (length block.now)) }
     ensures clean { IfOk result (Tells (Clean F.ops (framed.now.n - 1) (column_in F.ops F.member frame.now) (stream F.ops F.member framed.now.n block.now))) }
     ensures encoded { IfOk result (TellsEncoded F.ops F.member framed.now.n framed.now.degree (symbols_in framed.now.n framed.now.degree (length block.now)) frame.now block.now) }
     ensures found { (symbols : ℕ) → length block.now ≡ framed.now.n * (symbols + framed.now.degree) → symbols_in framed.now.n framed.now.degree (length block.now) ≡ symbols }

@@ -18,6 +18,7 @@ pub enum LinkFault {
     Length,
 }
 
+// Arm by arm, here and in `Display`: each refusal has a number and a text of its own, and both are printed.
 impl Refusal for LinkFault {
     ghost numbered = { link_number };
 

@@ -1,10 +1,13 @@
 // Coefficients of products of streams and polynomials.
-ghost use Rattle.std.specs.Prelude.{◌≡◌, ℕ, ◌-◌, ◌*◌, ◌<◌, ◌≤◌, length};
+ghost use Rattle.std.specs.Prelude.{◌≡◌, ℕ, ◌+◌, ◌-◌, ◌*◌, ◌<◌, ◌≤◌, length};
 ghost use Rattle.algebra.specs.Link.{Clean};
 ghost use Rattle.algebra.specs.Series.{dot, series};
 ghost use Rattle.framing.specs.Framing.{column_in};
 ghost use Rattle.tables.specs.Places.{at};
+ghost use Rattle.tables.specs.declared.sizes.TheConstants.{FRAME, MAX_COUNT};
 ghost use Rattle.link.specs.Blocks.{stream, Tells};
+ghost use Rattle.link.specs.declared.calls.TheConstants.{SYMBOLS};
+ghost use Rattle.link.specs.declared.products.TheConstants.{HIGHEST};
 
 use fields::field::Field;
 use tables::sizes::{GENERATORS, WIDTH};
@@ -13,13 +16,14 @@ use tables::sizes::{GENERATORS, WIDTH};
 const HIGHEST: usize = WIDTH - 1;
 
 // A block of n streams at so many times: the symbol of stream i at time t lies at n t + i.
+// At most a message times a generator lies in it.
 #[derive(Drop)]
 pub struct Streams<'a, F> {
     pub symbols: &'a [F],
     pub n: usize,
     pub times: usize,
     ghost some: { (1 ≤ n) × (1 ≤ times) },
-    ghost few: { (n ≤ 8) × (times < 8192) },
+    ghost few: { (n ≤ MAX_COUNT) × (times ≤ SYMBOLS + HIGHEST) },
     ghost whole: { length symbols.now ≡ n * times },
 }
 
@@ -44,20 +48,19 @@ impl<'a, F: Field> Streams<'a, F> {
 
     // The coefficient of s^t in the sum over the streams of stream i times component i of column j of a frame.
     pub fn combination(&self, frame: &[F], j: usize, t: usize) -> F
-        requires { (length frame.now ≡ 1105) × (j < 8) }
+        requires { (length frame.now ≡ FRAME) × (j < MAX_COUNT) }
         ensures { F.member result ≡ dot (series F.ops) self.now.n (stream F.ops F.member self.now.n self.now.symbols.now) (column_in F.ops F.member frame.now j) t }
     {
         let column = &frame[GENERATORS * j..][..WIDTH * self.n];
-        let mut sum = F::zero();
-        for (i, polynomial) in column.chunks_exact(WIDTH).enumerate() {
-            sum = sum.add(self.coefficient(i, polynomial, t));
-        }
-        sum
+        column.chunks_exact(WIDTH).enumerate().fold(
+            F::zero(),
+            |sum, (i, polynomial)| sum.add(self.coefficient(i, polynomial, t)),
+        )
     }
 
     // Whether the sum of column j of a frame has no s^t.
     fn vanishes(&self, frame: &[F], j: usize, t: usize) -> bool
-        requires { (length frame.now ≡ 1105) × (j < 8) }
+        requires { (length frame.now ≡ FRAME) × (j < MAX_COUNT) }
         ensures { Tells (dot (series F.ops) self.now.n (stream F.ops F.member self.now.n self.now.symbols.now) (column_in F.ops F.member frame.now j) t ≡ F.ops.zero) result }
     {
         self.combination(frame, j, t).same(F::zero())
@@ -65,7 +68,7 @@ impl<'a, F: Field> Streams<'a, F> {
 
     // Whether the sums of all check columns have no s^t.
     fn clean_at(&self, frame: &[F], t: usize) -> bool
-        requires { length frame.now ≡ 1105 }
+        requires { length frame.now ≡ FRAME }
         ensures { Tells ((j : ℕ) → 1 ≤ j → j < self.now.n → dot (series F.ops) self.now.n (stream F.ops F.member self.now.n self.now.symbols.now) (column_in F.ops F.member frame.now j) t ≡ F.ops.zero) result }
     {
         (1..self.n).all(|j| self.vanishes(frame, j, t))
@@ -74,7 +77,7 @@ impl<'a, F: Field> Streams<'a, F> {
     // Whether the block is clean.
     pub fn is_clean(&self, frame: &[F]) -> bool
         requires block { 2 ≤ self.now.n }
-        requires frame { length frame.now ≡ 1105 }
+        requires frame { length frame.now ≡ FRAME }
         ensures { Tells (Clean F.ops (self.now.n - 1) (column_in F.ops F.member frame.now) (stream F.ops F.member self.now.n self.now.symbols.now)) result }
     {
         (0..self.times + HIGHEST).all(|t| self.clean_at(frame, t))

@@ -1,5 +1,5 @@
 -- A run whose design, where it is framed, keeps its promises, goes on so. Assumes nothing.
-use Rattle.std.proofs.Common.{◌≡◌, ℕ, zero, suc, ◌-◌, ◌<◌, ◌≤◌, Bool, true, false, eqb, ◌⊎◌, List, ◌∷◌, length, IfOk, Some, None, Ok, Err, Option, Result, sym, refl, ap, ◌∙◌, subst, inl, inr, true≢false, arith, MatchResult}
+use Rattle.std.proofs.Common.{◌≡◌, ℕ, zero, suc, ◌-◌, ◌<◌, ◌≤◌, Bool, true, false, eqb, ◌⊎◌, List, ◌∷◌, length, IfOk, None, Ok, Err, Result, sym, refl, ap, ◌∙◌, subst, inl, inr, true≢false, arith, MatchResult}
 use mathlib.Core.Path.{fun_ext}
 use Rattle.std.proofs.lemmas.Bool.Decides.{eqb_tells}
 use Rattle.algebra.specs.Divisors.{Monic, DividedRow, VectorDegree}
@@ -28,14 +28,10 @@ use Rattle.runs.specs.Steps.{Held, held, Step, Stands, Sent, PromisedOf, SafeSte
 use Rattle.runs.specs.Steps as steps
 
 -- questions that were all passed were passed one by one
-abbrev Passed : {E : Type 0} → Option E → Type 0
-Passed None = Unit {0}
-Passed (Some e) = ⊥
-
 second_passed : {E : Type 0} (a b : Bool) (x y : E) (qs : List (Question E)) → None ≡ first_no (asks a x ∷ asks b y ∷ qs) → b ≡ true
 second_passed true true x y qs passed = refl
-second_passed true false x y qs passed = absurd (subst Passed passed tt)
-second_passed false b x y qs passed = absurd (subst Passed passed tt)
+second_passed true false x y qs passed = cc
+second_passed false b x y qs passed = cc
 
 -- a call that the link grants is on a design whose divisor has degree 0
 granted_divisor : (exact table n d e L long : ℕ) → None ≡ first_no (link_questions exact table n d e L long) → e ≡ 0

@@ -115,8 +115,9 @@ module _ {F R : Type 0} (o : RingOps R) (member : F → R) where
   abbrev pub Sent : Framed → (generators : List F) → (L : ℕ) (message : ℕ → R) (block : List F) → Type 0
   Sent x g L message block = Encodes o x.n (generator_in o member g) L message (stream o member x.n block)
 
-  -- What a framed design promises of a granted call on the link: encode sends the message; check says yes exactly where some message was sent;
-  -- invert gives the message that was sent, and one changed symbol of the block changes at most (degree of column 0) + 1 symbols of it.
+  -- What a framed design promises of a granted call on the link: encode sends the message; check says yes exactly where some message was
+  -- sent; invert gives the message that was sent, and one changed symbol of the block changes at most (degree of column 0) + 1 symbols
+  -- of it.
   abbrev pub Promised : Framed → (generators frame : List F) → Answer F → Type 0
   Promised x g f (answered.Put r) = Unit {0}
   Promised x g f (answered.Frame r work) = Unit {0}

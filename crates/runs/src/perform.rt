@@ -1,5 +1,6 @@
 // The call that performs a list of requests, and the theorem on runs.
 ghost use Rattle.std.specs.Prelude.{◌≡◌, IfOk, IfErr};
+ghost use Rattle.fields.specs.Elements.{code_of};
 ghost use Rattle.history.specs.Runs.{Performs};
 ghost use Rattle.runs.specs.Steps.{Step, SafeStep, Stands, held};
 
@@ -30,8 +31,8 @@ pub fn perform<F: Field>(
     frame: &mut [F],
     requests: Vec<Request<F>>,
 ) -> Result<Performed<F>, Unperformed<F>>
-    ensures run { IfOk result (λ p. Performs (Step F.ops F.member (λ x. F.number (F.member x)) F.order) requests.items (held design generators.old frame.old) p.answers.items (held p.design generators.new frame.new)) }
-    ensures promises { IfOk result (λ p. Stands F.ops F.member design generators.old frame.old → Performs (SafeStep F.ops F.member (λ x. F.number (F.member x)) F.order) requests.items (held design generators.old frame.old) p.answers.items (held p.design generators.new frame.new)) }
+    ensures run { IfOk result (λ p. Performs (Step F.ops F.member (code_of F.number F.member) F.order) requests.items (held design generators.old frame.old) p.answers.items (held p.design generators.new frame.new)) }
+    ensures promises { IfOk result (λ p. Stands F.ops F.member design generators.old frame.old → Performs (SafeStep F.ops F.member (code_of F.number F.member) F.order) requests.items (held design generators.old frame.old) p.answers.items (held p.design generators.new frame.new)) }
     ensures unperformed { IfErr result (λ e. (e.design ≡ design) × (e.requests ≡ requests) × (generators.new ≡ generators.old) × (frame.new ≡ frame.old)) }
 {
     let Ok(mut answers) = Vec::with_capacity(heap, requests.len()) else {

@@ -1,4 +1,4 @@
-// A call as a value, and what it answered.
+// A call as a value, and what it answered. `history::request` has `Put` alone, for a run on a draft; both are public, and stay.
 use design::draft::Draft;
 use design::fault::DesignFault;
 use design::framed::Framed;

@@ -1,5 +1,6 @@
 // One request.
 ghost use Rattle.std.specs.Prelude.{◌≡◌, Ok as Granted, Err as Refused, MatchResult};
+ghost use Rattle.fields.specs.Elements.{code_of};
 ghost use Rattle.runs.specs.Steps.{Step, held};
 ghost use Rattle.runs.specs.declared.request.Design.TheVariants.{Draft as ADraft, Framed as AFramed};
 ghost use Rattle.runs.specs.declared.request.Request.TheVariants.{Reopen};
@@ -35,7 +36,7 @@ fn on_draft<F: Field>(
     frame: &mut [F],
     request: Request<F>,
 ) -> Stepped<F>
-    ensures { Step F.ops F.member (λ x. F.number (F.member x)) F.order request (held (ADraft draft) generators.old frame.old) result.answer (held result.design generators.new frame.new) }
+    ensures { Step F.ops F.member (code_of F.number F.member) F.order request (held (ADraft draft) generators.old frame.old) result.answer (held result.design generators.new frame.new) }
 {
     match request {
         Request::Put { i, power, code } => {
@@ -72,7 +73,7 @@ fn on_draft<F: Field>(
 
 // Reopens a framed design. No other call goes from framed to draft, so it settles its own answer.
 fn reopen_framed<F: Field>(framed: Framed, frame: &mut [F]) -> Stepped<F>
-    ensures { (g : _) → Step F.ops F.member (λ x. F.number (F.member x)) F.order Reopen (held (AFramed framed) g frame.old) result.answer (held result.design g frame.new) }
+    ensures { (g : _) → Step F.ops F.member (code_of F.number F.member) F.order Reopen (held (AFramed framed) g frame.old) result.answer (held result.design g frame.new) }
 {
     match framed.reopen(frame) {
         Ok(draft) => Stepped {
@@ -93,7 +94,7 @@ fn on_framed<F: Field>(
     frame: &mut [F],
     request: Request<F>,
 ) -> Stepped<F>
-    ensures { Step F.ops F.member (λ x. F.number (F.member x)) F.order request (held (AFramed framed) generators.now frame.old) result.answer (held result.design generators.now frame.new) }
+    ensures { Step F.ops F.member (code_of F.number F.member) F.order request (held (AFramed framed) generators.now frame.old) result.answer (held result.design generators.now frame.new) }
 {
     let answer = match request {
         Request::Reopen => return reopen_framed(framed, frame),
@@ -126,7 +127,7 @@ pub(crate) fn perform_one<F: Field>(
     frame: &mut [F],
     request: Request<F>,
 ) -> Stepped<F>
-    ensures { Step F.ops F.member (λ x. F.number (F.member x)) F.order request (held design generators.old frame.old) result.answer (held result.design generators.new frame.new) }
+    ensures { Step F.ops F.member (code_of F.number F.member) F.order request (held design generators.old frame.old) result.answer (held result.design generators.new frame.new) }
 {
     match design {
         Design::Draft(draft) => on_draft(draft, generators, frame, request),

@@ -1,6 +1,7 @@
 // The calls on a draft.
 ghost use Rattle.std.specs.Prelude.{◌≡◌, length, MatchResult};
 ghost use Rattle.std.specs.Result.{result_err};
+ghost use Rattle.fields.specs.Elements.{code_of};
 ghost use Rattle.fields.specs.Questions.{first_no};
 ghost use Rattle.tables.specs.Places.{Cleared};
 ghost use Rattle.design.specs.Drafts.{begin_questions, Puts};
@@ -8,7 +9,7 @@ ghost use Rattle.design.specs.Drafts.{begin_questions, Puts};
 use crate::draft::Draft;
 use crate::fault::DesignFault;
 use fields::field::Field;
-use tables::sizes::{GENERATORS, WIDTH};
+use tables::sizes::{GENERATORS, MAX_COUNT, WIDTH};
 
 impl Draft {
     // Begins a design of n generators, all zero.
@@ -19,7 +20,7 @@ impl Draft {
         if generators.len() != GENERATORS {
             return Err(DesignFault::TableLength);
         }
-        if !(2..=8).contains(&n) {
+        if !(2..=MAX_COUNT).contains(&n) {
             return Err(DesignFault::GeneratorCount);
         }
         tables::clear(generators);
@@ -34,7 +35,7 @@ impl Draft {
         power: usize,
         code: u32,
     ) -> Result<(), DesignFault>
-        ensures { Puts (λ x. F.number (F.member x)) F.order self.now.n i power code generators.old result generators.new }
+        ensures { Puts (code_of F.number F.member) F.order self.now.n i power code generators.old result generators.new }
     {
         if generators.len() != GENERATORS {
             return Err(DesignFault::TableLength);

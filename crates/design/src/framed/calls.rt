@@ -32,7 +32,7 @@ impl Framed {
         j: usize,
     ) -> Result<&'a [F], DesignFault>
         ensures answer { result_err result ≡ first_no (column_questions self.now.n i j (length frame.now)) }
-        ensures part { IfOk result (λ s. s.now ≡ take 17 (drop (column_place i j) frame.now)) }
+        ensures part { IfOk result (λ s. s.now ≡ take WIDTH (drop (column_place i j) frame.now)) }
     {
         if frame.len() != FRAME {
             return Err(DesignFault::TableLength);

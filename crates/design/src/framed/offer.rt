@@ -10,8 +10,9 @@ use judging::offer_row;
 use tables::sizes::{COLUMNS, FRAME, GENERATORS, WORK};
 
 impl Draft {
-    // Takes the columns of an offered table where they are degree-optimal for the generators, and gives the framed design; refused, it hands the draft back.
-    // Power k of component i of column j stands at 136 j + 17 i + k; rows and columns from n on are not read.
+    // Takes the columns of an offered table where they are degree-optimal for the generators, and gives the framed design.
+    // Refused, it hands the draft back. Power k of component i of column j stands at 136 j + 17 i + k; rows and columns from n on
+    // are not read.
     pub fn offer<F: Field>(
         self,
         generators: &[F],
@@ -30,6 +31,7 @@ impl Draft {
         {
             return Err(HandedBack::of(self, DesignFault::TableLength));
         }
+        // Each arm moves the draft, which the closures of `map` and `map_err` cannot both take.
         match offer_row(self.count(), generators, offered, frame, work) {
             Ok(numbers) => Ok(Framed::of(self, numbers)),
             Err(objection) => Err(HandedBack::of(self, DesignFault::from(objection))),

@@ -1,4 +1,5 @@
 use Rattle.std.proofs.Common.{◌≡◌, ◌+◌, length, unwrap_or, sym, ap, ◌∙◌, arith}
+use Rattle.fields.specs.Elements.{code_of}
 use Rattle.cards.specs.Cards.{link, records}
 use Rattle.cards.specs.Overwriting.{over}
 use Rattle.cards.proofs.Overwriting.{over_nothing}
@@ -12,9 +13,9 @@ loop-power-preserved g c =
     let i = c.loop-power.invariant in
     elim c.if-code-ne0.branch [
       | then-code-ne0 w ↦
-          let e = from_nonzero (λ x. f.number (f.member x)) c.loop-power.power c.args.row.now c.index-row-power.result c.code-code.result c.loop-power-test.true c.index-row-power.is c.code-code.ensures w.if-code-ne0.true in
+          let e = from_nonzero (code_of f.number f.member) c.loop-power.power c.args.row.now c.index-row-power.result c.code-code.result c.loop-power-test.true c.index-row-power.is c.code-code.ensures w.if-code-ne0.true in
           let n = ap length e in
-          let later : c.if-code-ne0.left ≡ length (terms_from (λ x. f.number (f.member x)) (c.loop-power.power + 1) c.args.row.now) = omega (arith, w.left-is, n, i.later) in
+          let later : c.if-code-ne0.left ≡ length (terms_from (code_of f.number f.member) (c.loop-power.power + 1) c.args.row.now) = omega (arith, w.left-is, n, i.later) in
           record {
             later = later;
             few = omega (arith, w.next-is, i.few);
@@ -22,11 +23,11 @@ loop-power-preserved g c =
             room = omega (arith, w.left-is, w.at-is, n, c.if-code-ne0.auto.buffer, i.later, i.room);
             written =
                 records_step c.loop-power.at c.loop-power.next c.loop-power.power c.code-code.result (unwrap_or w.link.result 0) _ _ c.loop-power.buffer _ _ _
-                w.at-is w.next-is (w.buffer-is ∙ w.write_record.ensures) e (w.link.ensures _ (omega (arith, w.left-is, later)) ∙ ap (λ k. link k (terms_from (λ x. f.number (f.member x)) (c.loop-power.power + 1) c.args.row.now)) (sym w.next-is))
+                w.at-is w.next-is (w.buffer-is ∙ w.write_record.ensures) e (w.link.ensures _ (omega (arith, w.left-is, later)) ∙ ap (λ k. link k (terms_from (code_of f.number f.member) (c.loop-power.power + 1) c.args.row.now)) (sym w.next-is))
                 ∙ i.written;
           }
       | else-code-ne0 w ↦
-          let e = from_zero (λ x. f.number (f.member x)) c.loop-power.power c.args.row.now c.index-row-power.result c.code-code.result c.loop-power-test.true c.index-row-power.is c.code-code.ensures w.if-code-ne0.false in
+          let e = from_zero (code_of f.number f.member) c.loop-power.power c.args.row.now c.index-row-power.result c.code-code.result c.loop-power-test.true c.index-row-power.is c.code-code.ensures w.if-code-ne0.false in
           let n = ap length e in
           record {
             later = omega (arith, w.left-is, n, i.later);
@@ -40,7 +41,7 @@ loop-power-preserved g c =
 pub returns-clause-after : goal.returns-clause-after
 returns-clause-after g c =
     let f = g.F.Field in
-    let none = from_all (λ x. f.number (f.member x)) c.loop-power.power c.args.row.now c.loop-power-test.false in
+    let none = from_all (code_of f.number f.member) c.loop-power.power c.args.row.now c.loop-power-test.false in
     sym (over_nothing c.loop-power.at c.loop-power.buffer)
     ∙ ap (λ ts. over c.loop-power.at (records c.loop-power.next ts) c.loop-power.buffer) (sym none)
     ∙ c.loop-power.invariant.written

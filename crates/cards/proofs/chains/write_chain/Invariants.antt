@@ -1,4 +1,5 @@
 use Rattle.std.proofs.Common.{◌≡◌, ◌+◌, ◌*◌, ◌≤◌, length}
+use Rattle.fields.specs.Elements.{code_of}
 use Rattle.cards.specs.Cards.{records}
 use Rattle.cards.specs.Overwriting.{over}
 use Rattle.cards.proofs.Terms.{terms_from}
@@ -7,8 +8,8 @@ use Rattle.cards.proofs.chains.write_chain.Given as goal
 abbrev pub invariant-loop-power : goal.invariant-loop-power
 invariant-loop-power g l =
     let f = g.F.Field in
-    let all = terms_from (λ x. f.number (f.member x)) 0 l.row in
-    let left = terms_from (λ x. f.number (f.member x)) l.power l.row in
+    let all = terms_from (code_of f.number f.member) 0 l.row in
+    let left = terms_from (code_of f.number f.member) l.power l.row in
     record {
       later : l.left ≡ length left;
       few : l.next ≤ l.first + l.power;

@@ -1,5 +1,6 @@
 use Rattle.std.proofs.Common.{◌≡◌, ◌+◌, ◌-◌, ◌*◌, ◌≤◌, length, take}
 use Rattle.std.specs.Slice.Iter.{chunks_exact_rest, chunks_exact_size}
+use Rattle.fields.specs.Elements.{code_of}
 use Rattle.cards.specs.Cards.{chains}
 use Rattle.cards.specs.Overwriting.{over}
 use Rattle.cards.proofs.Generators.{row_generators}
@@ -13,5 +14,5 @@ invariant-loop-row g l =
       size : chunks_exact_size l.row-iterator ≡ 17;
       one : 1 ≤ l.next;
       few : l.next + length rest ≤ 1 + 17 * l.n;
-      written : over (l.n + 4 * l.next - 1) (chains l.next (row_generators (λ x. f.number (f.member x)) rest)) l.buffer ≡ over (3 + l.n) (chains 1 (row_generators (λ x. f.number (f.member x)) (take (17 * l.n) l.table))) l.initial.buffer;
+      written : over (l.n + 4 * l.next - 1) (chains l.next (row_generators (code_of f.number f.member) rest)) l.buffer ≡ over (3 + l.n) (chains 1 (row_generators (code_of f.number f.member) (take (17 * l.n) l.table))) l.initial.buffer;
     }

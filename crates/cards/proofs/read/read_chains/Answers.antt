@@ -1,9 +1,10 @@
 use Rattle.std.proofs.Common.{◌≡◌, ℕ, ◌+◌, ◌-◌, ◌*◌, take, drop, ap, ◌∙◌, subst, arith}
 use Rattle.tables.specs.Places.{at}
+use Rattle.tables.proofs.Slices.{at_take, at_drop}
 use borrow.Rule.Slice.PartMut.{put_mid}
 use Rattle.cards.specs.Reading.{Gathered}
 use Rattle.cards.proofs.Gathering.{gathered_zero, gathered_more}
-use Rattle.cards.proofs.Rows.{at_part, entered_row}
+use Rattle.cards.proofs.Rows.{entered_row}
 use Rattle.cards.proofs.read.read_chains.Goals as goal
 
 pub read_chain-requires-clause-zeros : goal.read_chain-requires-clause-zeros
@@ -12,7 +13,7 @@ read_chain-requires-clause-zeros g c k h =
     let i = c.loop-i.i in
     let width : 17 ≡ 17 * (i + 1) - 17 * i = omega arith in
     subst (λ (n : ℕ). f.number (at f.ops f.member (take n (drop (17 * i) c.loop-i.table)) k) ≡ 0) width
-    (ap f.number (at_part f.ops f.member (17 * i) 17 k c.loop-i.table (omega arith) h) ∙ gathered_zero f.ops f.member f.number f.order c.args.card.now.bytes.now i c.loop-i.table c.loop-i.invariant k h)
+    (ap f.number (at_take f.ops f.member 17 (drop (17 * i) c.loop-i.table) k h ∙ at_drop f.ops f.member (17 * i) c.loop-i.table k) ∙ gathered_zero f.ops f.member f.number f.order c.args.card.now.bytes.now i c.loop-i.table c.loop-i.invariant k h)
 
 pub loop-i-preserved : goal.loop-i-preserved
 loop-i-preserved g c =

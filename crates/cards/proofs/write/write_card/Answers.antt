@@ -1,5 +1,6 @@
 use Rattle.std.proofs.Common.{◌≡◌, ℕ, ◌+◌, ◌-◌, ◌*◌, List, ◌++◌, map, length, take, set, replicate, sym, ap, ◌∙◌, subst, arith, rules}
 use lib.Seq.{take-append_seam}
+use Rattle.fields.specs.Elements.{code_of}
 use Rattle.cards.specs.Cards.{generators, chains, card}
 use Rattle.cards.specs.Overwriting.{over}
 use Rattle.cards.specs.RoundTrip.{ReadsBack}
@@ -10,7 +11,7 @@ use Rattle.cards.proofs.write.write_card.Goals as goal
 pub returns : goal.returns
 returns g c =
     let f = g.F.Field in
-    let codes = map (λ x. f.number (f.member x)) c.args.generators.now in
+    let codes = map (code_of f.number f.member) c.args.generators.now in
     let n = c.count-n.result in
     let m = c.write_heads-m.result in
     let gs = generators n codes in

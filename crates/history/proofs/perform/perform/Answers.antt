@@ -1,10 +1,7 @@
-use Rattle.std.proofs.Common.{vec_items, refl, rules}
+use Rattle.std.proofs.Common.{rules}
 use Rattle.std.proofs.lemmas.List.{drop_more, drop_all}
-use Rattle.history.proofs.Runs.{leads_start, leads_next, leads_end}
+use Rattle.history.proofs.Runs.{leads_next, leads_end}
 use Rattle.history.proofs.perform.perform.Goals as goal
-
-pub loop-request-init : goal.loop-request-init
-loop-request-init g c = let m = c.in-Ok.ensures in (m.len, search rules, leads_start _ _ _ (vec_items c.in-Ok.answers) m.items)
 
 pub loop-request-preserved : goal.loop-request-preserved
 loop-request-preserved g c = (
@@ -15,9 +12,5 @@ loop-request-preserved g c = (
       c.perform_one.ensures c.push_reserved.ensures.items,
 )
 
-pub returns : goal.returns
-returns g c =
-    record {
-      draft = refl;
-      run = leads_end _ _ _ _ _ _ c.loop-request.invariant.2 (drop_all c.loop-request.request-index c.args.requests.now c.loop-request-test.false);
-    }
+pub returns-clause-run : goal.returns-clause-run
+returns-clause-run g c = leads_end _ _ _ _ _ _ c.loop-request.invariant.2 (drop_all c.loop-request.request-index c.args.requests.now c.loop-request-test.false)

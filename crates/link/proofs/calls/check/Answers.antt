@@ -1,10 +1,9 @@
 use Rattle.std.proofs.Common.{◌≡◌, ℕ, ◌+◌, ◌-◌, ◌*◌, length, ap, ◌∙◌, subst, ap₂}
 use Rattle.algebra.specs.Link.{Clean}
-use Rattle.fields.specs.Questions.{first_no}
 use Rattle.framing.specs.Framing.{column_in}
 use Rattle.algebra.proofs.Fields.{field_of}
 use Rattle.link.specs.Blocks.{stream, Tells}
-use Rattle.link.specs.Questions.{link_questions, symbols_in}
+use Rattle.link.specs.Questions.{symbols_in}
 use Rattle.link.proofs.Guarantees.{tells_encoded}
 use Rattle.link.proofs.Streams.{symbols_found}
 use Rattle.link.proofs.calls.check.Goals as goal
@@ -28,6 +27,3 @@ returns-clause-encoded g c =
     let symbols : c.saturating_sub-symbols.result ≡ symbols_in framed.n framed.degree (length block) = c.saturating_sub-symbols.ensures ∙ ap₂ (λ n d. symbols_in n d (length block)) c.generators-n.ensures c.degree.ensures in
     tells_encoded f.ops f.member (field_of g.met.F.Field.laws g.met.F.Field.numbered g.met.F.Field.invertible) framed.n framed.low frame framed.degree (symbols_in framed.n framed.degree (length block)) block c.is_clean.result
     (c.in_ok-ask.ensures.lengths.3 ∙ ap (λ s. framed.n * (s + framed.degree)) symbols) (subst IsClean c.generators-n.ensures c.is_clean.ensures)
-
-pub returns-clause-found : goal.returns-clause-found
-returns-clause-found g c = λ s. symbols_found (length c.args.block.now) c.args.framed.now.n c.args.framed.now.degree s c.args.framed.now.low

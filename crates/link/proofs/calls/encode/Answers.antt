@@ -17,15 +17,10 @@ loop-t-preserved g c =
     (λ i t. (series f.ops).product (message_series f.ops f.member c.args.message.now) (generator_in f.ops f.member c.args.generators.now i) t)
     long c.loop-t-test.true (c.encode_time.auto.symbols ∙ part) (λ i h. c.encode_time.ensures i (omega (arith, part))) c.loop-t.invariant
 
-pub returns : goal.returns
-returns g c =
+pub returns-clause-encodes : goal.returns-clause-encodes
+returns-clause-encodes g c =
     let f = g.F.Field in
     let framed = c.args.framed.now in
-    let e = c.in_ok-ask.ensures.lengths in
     let Written : ℕ → ℕ → Type 0 = λ n d. Encoded f.ops f.member n d c.args.generators.now c.args.message.now c.loop-t.block in
-    let is : Written framed.n framed.degree = subst (λ d. Written framed.n d) c.degree.ensures (subst (λ n. Written n c.degree.result) c.generators-n.ensures (λ i t h l. c.loop-t.invariant i t h (omega arith))) in
-    record {
-      answer = c.in_ok-ask.ensures.answer;
-      written = is;
-      encodes = encodes_message f.ops f.member g.met.F.Field.laws.ring framed.n framed.degree c.args.generators.now c.args.message.now c.loop-t.block (c.loop-t.auto.block ∙ e.3) is;
-    }
+    encodes_message f.ops f.member g.met.F.Field.laws.ring framed.n framed.degree c.args.generators.now c.args.message.now c.loop-t.block (c.loop-t.auto.block ∙ c.in_ok-ask.ensures.lengths.3)
+    (subst (λ d. Written framed.n d) c.degree.ensures (subst (λ n. Written n c.degree.result) c.generators-n.ensures (λ i t h l. c.loop-t.invariant i t h (omega arith))))

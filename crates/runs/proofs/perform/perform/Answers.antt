@@ -1,22 +1,13 @@
 use Rattle.std.proofs.Common.{List, vec_items, subst, arith}
 use Rattle.std.specs.Vec.Iter.{into_iter_items}
 use Rattle.std.proofs.lemmas.List.{nil_from_length}
-use Rattle.history.proofs.Runs.{leads_start, leads_next, leads_end}
+use Rattle.fields.specs.Elements.{code_of}
+use Rattle.history.proofs.Runs.{leads_next, leads_end}
 use Rattle.runs.proofs.Safe.{safe_run}
 use Rattle.runs.specs.declared.request.Request.{Request}
 use Rattle.history.specs.Runs.{Performs}
 use Rattle.runs.specs.Steps.{Step, held}
 use Rattle.runs.proofs.perform.perform.Goals as goal
-
-pub loop-request-init : goal.loop-request-init
-loop-request-init g c =
-    let made = c.in-Ok.ensures in
-    let counted = c.into_iter-request-iterator.ensures.into_iter_gives.1 in
-    let long = c.len.ensures in
-    (let none = made.len in let room = made.capacity in omega arith, leads_start _ _ _ (vec_items c.in-Ok.answers) made.items)
-
-pub push_reserved-requires : goal.push_reserved-requires
-push_reserved-requires g c = let room = c.loop-request.invariant.0 in let step = c.in-Some.ensures.steps.1 in omega arith
 
 pub loop-request-preserved : goal.loop-request-preserved
 loop-request-preserved g c =
@@ -33,12 +24,12 @@ returns g c =
     let left = nil_from_length (into_iter_items c.loop-request.request-iterator) (let ok = c.loop-request.request-iterator.rest.ok.0 in omega arith) in
     let entry = held c.args.design c.args.generators.now c.args.frame.now in
     let exit = held c.loop-request.design c.loop-request.generators c.loop-request.frame in
-    let step = Step f.ops f.member (λ x. f.number (f.member x)) f.order in
+    let step = Step f.ops f.member (code_of f.number f.member) f.order in
     let run =
     subst (λ (qs : List (Request g.row.F.Denot)). Performs step qs entry (vec_items c.loop-request.answers) exit) c.into_iter-request-iterator.ensures.into_iter_gives.0
     (leads_end step _ entry _ _ exit c.loop-request.invariant.1 left) in
     record {
       run = run;
-      promises = λ stands. safe_run f.ops f.member g.met.F.Field.laws (λ x. f.number (f.member x)) f.order _ entry _ exit stands run;
+      promises = λ stands. safe_run f.ops f.member g.met.F.Field.laws (code_of f.number f.member) f.order _ entry _ exit stands run;
       unperformed = tt;
     }

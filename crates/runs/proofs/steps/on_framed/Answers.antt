@@ -1,12 +1,9 @@
 use Rattle.std.proofs.Common.{refl, arith}
 use Rattle.std.proofs.lemmas.List.{with_items_is}
 use Rattle.runs.specs.Steps.{turned_away}
-use Rattle.runs.proofs.Lent.{asked_as, answered_as, encodes_lent, checks_lent, inverts_lent, turned_from_framed}
+use Rattle.runs.proofs.Lent.{answered_as, encodes_lent, checks_lent, inverts_lent, turned_from_framed}
 use Rattle.runs.proofs.steps.on_framed.Goals.{in-Encode, in-Check, in-Invert, in_default}
 use Rattle.runs.proofs.steps.on_framed.Goals as goal
-
-pub returns-in-Reopen : goal.returns-in-Reopen
-returns-in-Reopen g c = asked_as _ _ _ _ _ _ _ _ _ c.in-Reopen.is (c.reopen_framed.ensures _)
 
 pub returns : goal.returns
 returns g c =

@@ -8,12 +8,6 @@ loop-k-init g c =
     let f = g.F.Field in
     met_first f.ops f.member _ _ _ _ _ _ _ g.met.F.Field.laws.ring c.args.self.now.whole c.min-last.ensures (omega arith) _ c.zero-sum.ensures
 
-pub offset_bounds-symbols-self : goal.offset_bounds-symbols-self
-offset_bounds-symbols-self g c =
-    let f = g.F.Field in
-    let here = symbol_within f.ops f.member _ _ _ _ _ _ _ g.met.F.Field.laws.ring c.args.self.now.whole c.min-last.ensures (omega arith) _ _ _ (after_gap c.args.polynomial.now (c.args.t - c.min-last.result) c.min.result c.min.ensures) c.min-2.ensures refl c.loop-k.k c.loop-k-test.true c.requires in
-    omega (arith, here)
-
 pub loop-k-preserved : goal.loop-k-preserved
 loop-k-preserved g c =
     let f = g.F.Field in

@@ -1,55 +1,32 @@
-use Rattle.std.proofs.Common.{length, sym, ap, ◌∙◌, arith}
-use Rattle.std.specs.Iterator.Adapters.{enumerate_source, enumerate_count}
+use Rattle.std.proofs.Common.{◌<◌, sym, refl, ap, ◌∙◌, subst, arith, rules}
 use Rattle.std.specs.Slice.Iter.{chunks_exact_rest, chunks_exact_size}
-use Rattle.algebra.specs.Series.{series}
-use Rattle.framing.specs.Framing.{column_in}
-use Rattle.tables.specs.Places.{at}
-use Rattle.link.specs.Blocks.{stream}
-use Rattle.link.proofs.Columns.{components_from, components_first, next_component, components_done}
-use Rattle.link.proofs.Terms.{streams, streams_more, streams_all}
+use Rattle.link.proofs.Combinations.{summed_first, summed_within, summed_after, summed_all}
 use Rattle.link.proofs.products.Streams.combination.Goals as goal
 
-pub loop-i-init : goal.loop-i-init
-loop-i-init g c =
-    let both = c.into_iter-i-iterator.ensures.into_iter_gives in
-    let start = c.enumerate-i-items.ensures in
-    let none = ap enumerate_count both ∙ start.count in (
-      ap (λ z. chunks_exact_size (enumerate_source z)) both ∙ ap chunks_exact_size start.source ∙ c.chunks_exact.ensures.size,
-      components_first g.F.Field.ops g.F.Field.member c.args.frame.now c.args.self.now.n c.args.j _ _ none (ap (λ z. chunks_exact_rest (enumerate_source z)) both ∙ ap chunks_exact_rest start.source ∙ c.chunks_exact.ensures.rest),
-      omega (arith, none),
-      c.zero-sum.ensures
-          ∙ ap (streams g.F.Field.ops (stream g.F.Field.ops g.F.Field.member c.args.self.now.n c.args.self.now.symbols.now) (column_in g.F.Field.ops g.F.Field.member c.args.frame.now c.args.j) c.args.t) (sym none),
-    )
-
-pub coefficient-requires : goal.coefficient-requires
-coefficient-requires g c =
+pub fold-requires-clause-callable : goal.fold-requires-clause-callable
+fold-requires-clause-callable g c =
     let f = g.F.Field in
-    let steps = c.in-Some.ensures.steps in
-    let next = next_component f.ops f.member c.args.frame.now c.args.self.now.n c.args.j (omega arith) _ _ _ (sym c.loop-i.invariant.1 ∙ steps.0.1.0) (steps.0.1.1 ∙ c.loop-i.invariant.0) in
-    omega (arith, next)
-
-pub loop-i-preserved : goal.loop-i-preserved
-loop-i-preserved g c =
-    let f = g.F.Field in
-    let xs = stream f.ops f.member c.args.self.now.n c.args.self.now.symbols.now in
-    let ys = column_in f.ops f.member c.args.frame.now c.args.j in
-    let steps = c.in-Some.ensures.steps in
-    let next = next_component f.ops f.member c.args.frame.now c.args.self.now.n c.args.j (omega arith) _ _ _ (sym c.loop-i.invariant.1 ∙ steps.0.1.0) (steps.0.1.1 ∙ c.loop-i.invariant.0) in (
-      steps.0.0 ∙ c.loop-i.invariant.0,
-      next.1 ∙ ap (components_from f.ops f.member c.args.frame.now c.args.self.now.n c.args.j) (sym steps.2),
-      omega (arith, next, steps),
-      c.add-sum.ensures
-          ∙ streams_more f.ops g.met.F.Field.laws.ring xs ys c.args.t (enumerate_count c.loop-i.i-iterator) (f.member c.loop-i.sum) (f.member c.coefficient.result) c.loop-i.invariant.3
-          (c.coefficient.ensures ∙ ap (λ i. (series f.ops).product (xs i) (at f.ops f.member c.in-Some.polynomial.now) c.args.t) steps.1
-          ∙ ap (λ y. (series f.ops).product (xs (enumerate_count c.loop-i.i-iterator)) y c.args.t) next.2)
-          ∙ ap (streams f.ops xs ys c.args.t) (sym steps.2),
-    )
+    let frame = c.args.frame.now in
+    let made = c.enumerate.result in
+    record {
+      at = λ xs u q x v ys fs step.
+          let so = summed_after f.ops g.met.F.Field.laws.ring f.member frame c.args.j _ (omega arith) _ (λ sum x q turned. search rules) xs made u _ q ys fs
+          (summed_first f.ops g.met.F.Field.laws.ring f.member frame c.args.j _ (omega arith) made _ refl
+          (ap chunks_exact_size c.enumerate.ensures.source ∙ c.chunks_exact.ensures.size) c.enumerate.ensures.count (ap chunks_exact_rest c.enumerate.ensures.source ∙ c.chunks_exact.ensures.rest) c.zero.ensures) in
+          let within = summed_within f.ops g.met.F.Field.laws.ring f.member frame c.args.j _ (omega arith) u v q x so step in
+          let lower : x.0 < q.0.0.now.n = subst (λ z. x.0 < z.0.now.n) (sym so.0) within in
+          search rules;
+    }
 
 pub returns : goal.returns
 returns g c =
     let f = g.F.Field in
-    let few = c.in-None.ensures.steps.0.1.0 in
-    c.loop-i.invariant.3
-    ∙ streams_all f.ops g.met.F.Field.laws.ring (stream f.ops f.member c.args.self.now.n c.args.self.now.symbols.now) (column_in f.ops f.member c.args.frame.now c.args.j) c.args.t (enumerate_count c.loop-i.i-iterator) c.args.self.now.n
-    (components_done f.ops f.member c.args.frame.now c.args.self.now.n c.args.j (omega arith) _ c.loop-i.invariant.2
-    (let size = c.loop-i.invariant.0 in let long = ap length c.loop-i.invariant.1 in omega (arith, few, size, long)))
+    let frame = c.args.frame.now in
+    let made = c.enumerate.result in
+    let ran = c.fold.ensures.ran in
+    let last = ran.2.1 in
+    summed_all f.ops g.met.F.Field.laws.ring f.member frame c.args.j _ (omega arith) last.0 ran.2.0 (ran.1, c.fold.result)
+    (summed_after f.ops g.met.F.Field.laws.ring f.member frame c.args.j _ (omega arith) _ (λ sum x q turned. search rules) ran.0 made last.0 _ (ran.1, c.fold.result) last.1 ran.3
+    (summed_first f.ops g.met.F.Field.laws.ring f.member frame c.args.j _ (omega arith) made _ refl
+    (ap chunks_exact_size c.enumerate.ensures.source ∙ c.chunks_exact.ensures.size) c.enumerate.ensures.count (ap chunks_exact_rest c.enumerate.ensures.source ∙ c.chunks_exact.ensures.rest) c.zero.ensures))
+    last.2
