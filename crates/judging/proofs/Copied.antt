@@ -1,4 +1,5 @@
--- The test by degrees reads only the first rows and columns. Main results: test_of_copy (columns with the same first rows pass it too), columns_nonzero.
+-- The test by degrees reads only the first rows and columns. Main results: test_of_copy (columns with the same first rows pass it too),
+-- columns_nonzero.
 use Rattle.std.proofs.Common.{◌≡◌, ℕ, zero, suc, ◌+◌, ◌-◌, ◌*◌, ◌<◌, ◌≤◌, List, drop, sym, ap, ◌∙◌, subst, suc-le-suc, zero-le, le_of_suc-le-suc, arith}
 use Rattle.algebra.specs.Rings.{RingOps, RingLaws, IsField}
 use Rattle.algebra.specs.Series.{dot, series, Below}

@@ -1,4 +1,5 @@
--- What the answers to the questions say of degree-optimal columns. Main results: test_passed and passed_optimal (all answered yes), objects_never (one answered no).
+-- What the answers to the questions say of degree-optimal columns. Main results: test_passed and passed_optimal (all answered yes),
+-- objects_never (one answered no).
 use Rattle.std.proofs.Common.{◌≡◌, ℕ, zero, suc, ◌+◌, ◌-◌, ◌*◌, ◌<◌, ◌≤◌, List, sym, refl, ap, ◌∙◌, subst, suc-le-suc, le_of_suc-le-suc, not-suc-le-zero, arith}
 use Rattle.algebra.specs.Rings.{RingOps, RingLaws, IsField}
 use Rattle.algebra.specs.Series.{dot, series, Polynomial}

@@ -1,5 +1,5 @@
--- The product of a row with a column, one component at a time, and its comparison with a multiple of a polynomial. Main results: dot_more, difference_zero,
--- zero_difference, zero_tells.
+-- The product of a row with a column, one component at a time, and its comparison with a multiple of a polynomial. Main results:
+-- dot_more, difference_zero, zero_difference, zero_tells.
 use Rattle.std.proofs.Common.{◌≡◌, ℕ, ◌+◌ as ◌plus◌, Bool, true, false, not, Option, Some, None, is_some, MatchOption, sym, ap, ◌∙◌, ap₂, add-one}
 use mathlib.Core.Path.{fun_ext}
 use Rattle.algebra.specs.Rings.{RingOps, RingLaws}

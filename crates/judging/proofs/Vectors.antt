@@ -1,5 +1,5 @@
--- Vectors taken by elimination, one behind the other. Main results: pivotal_more (a pivotal vector joins the others), non_pivotal (another makes them
--- dependent), outside_tells.
+-- Vectors taken by elimination, one behind the other. Main results: pivotal_more (a pivotal vector joins the others), non_pivotal
+-- (another makes them dependent), outside_tells.
 use Rattle.std.proofs.Common.{◌≡◌, ℕ, suc, ◌<◌, Bool, true, false, sym, ap, ◌∙◌, ap₂, arith}
 use native.Mathlib.Decide.{ℕ_discrete}
 use Rattle.algebra.specs.Rings.{RingOps, RingLaws, IsField}

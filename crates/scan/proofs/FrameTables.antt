@@ -1,5 +1,5 @@
--- Columns in the frame table as vectors: new_column (a column written), other_column (the others), and written_start, written_pivot, written_basic and
--- read_off_written (the check columns written, from one place to the next).
+-- Columns in the frame table as vectors: new_column (a column written), other_column (the others), and written_start, written_pivot,
+-- written_basic and read_off_written (the check columns written, from one place to the next).
 use mathlib.Core.Bool.{Bool}
 use mathlib.Core.List.{List}
 use mathlib.Core.Path.{◌≡◌, refl, sym, ap, ap₂, subst, ◌∙◌}

@@ -14,8 +14,8 @@ pub record Written {F M : Type 0} (o : RingOps M) (member : F → M) (n d rank :
   pub one : (j i k : ℕ) → j < b → i < n → k < suc d → n * k + i ≡ B j → column_in o member frame (suc j) i k ≡ o.one
   pub rest : (j i k : ℕ) → j < 8 → i < 8 → k < 17 → (0 < j → j ≤ b → i < n → ⊥) → at o member frame (136 * j + 17 * i + k) ≡ o.zero
 
--- The pivotal places found stand in places, their steps in steps and pivots. B and E are the basic places found and their multipliers; found
--- marks their classes, and frame has their check columns. `WalkedTo` says it of a walk, for the clauses.
+-- The pivotal places found stand in places, their steps in steps and pivots. B and E are the basic places found and their multipliers;
+-- found marks their classes, and frame has their check columns. `WalkedTo` says it of a walk, for the clauses.
 pub record Walked {F M : Type 0} (o : RingOps M) (member : F → M) (n d rows : ℕ) (r : ℕ → ℕ → M) (q rank b : ℕ) (steps : List F) (pivots places : List ℕ) (found : List Bool) (frame : List F) : Type 0 where
   pub B : ℕ → ℕ
   pub E : ℕ → ℕ → M

@@ -10,7 +10,8 @@ use tables::cells::put;
 use tables::rows::scale;
 use tables::sizes::{COLUMNS, FRAME, GENERATORS, MAX_COUNT, WIDTH};
 
-// Writes an element at the place q of column j. A column's number is a plain number: a type would say no more than that it is below MAX_COUNT.
+// Writes an element at the place q of column j. A column's number is a plain number: a type would say no more than that it is below
+// MAX_COUNT.
 fn put_at<F: Field>(row: &Row<'_, F>, j: usize, q: usize, value: F, frame: &mut [F])
     requires column { j < MAX_COUNT }
     requires room { (q < row.now.n * WIDTH) × (length frame.old ≡ FRAME) }

@@ -15,8 +15,8 @@ use fields::field::Field;
 use tables::sizes::{COLUMNS, FRAME};
 
 impl<'a, F: Field> Walk<'a, F> {
-    // Walks the place q. A place whose class has a basic place is passed. Else its list is taken: where it is pivotal, its step is recorded;
-    // where not, it is the next basic place, and its check column is written.
+    // Walks the place q. A place whose class has a basic place is passed. Else its list is taken: where it is pivotal, its step is
+    // recorded; where not, it is the next basic place, and its check column is written.
     fn walk_place(&mut self, q: usize, frame: &mut [F])
         requires place { q < self.old.row.n * suc self.old.row.d }
         requires room { length frame.old ≡ FRAME }
