@@ -16,7 +16,8 @@ use tables::sizes::{GENERATORS, WIDTH};
 const HIGHEST: usize = WIDTH - 1;
 
 // A block of n streams at so many times: the symbol of stream i at time t lies at n t + i.
-// At most a message times a generator lies in it.
+// At most a message times a generator lies in it. `times` is the length by n, and stays a field: a method would divide at each coefficient,
+// and with the quotient in its place the check no longer finds the bounds of the index.
 #[derive(Drop)]
 pub struct Streams<'a, F> {
     pub symbols: &'a [F],

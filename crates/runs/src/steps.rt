@@ -1,4 +1,6 @@
 // One request.
+// The two tables are handed on as they were lent. In a struct, each contract would say besides that both references stay, and each body
+// would borrow both again before it lends them on: that is no shorter.
 ghost use Rattle.std.specs.Prelude.{◌≡◌, Ok as Granted, Err as Refused, MatchResult};
 ghost use Rattle.fields.specs.Elements.{code_of};
 ghost use Rattle.runs.specs.Steps.{Step, held};
