@@ -3,4 +3,3 @@ pub mod Decimal
 pub mod Each
 pub mod Following
 pub mod Pieces
-pub mod Spelled

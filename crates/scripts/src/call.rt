@@ -16,14 +16,12 @@ trait Spelled: Copy {
         ensures { result.now ≡ spelling self };
 }
 
-// The value that a word spells, among all of its type.
+// The value that a word spells, among all of its type. Most words spell none, which is no error: so `of` below, and no `TryFrom`.
 fn spelled_by<S: Spelled>(all: &[S], word: &[u8]) -> Option<S>
     requires { (x : S) → Contains all.now x }
     ensures { MatchOption result ((x : S) → word.now ≢ S.spelling x) (λ x. word.now ≡ S.spelling x) }
 {
-    all.iter()
-        .copied()
-        .find(|x| word == x.spell().as_bytes())
+    all.iter().copied().find(|x| word == x.spell().as_bytes())
 }
 
 // The fields that a script can name.

@@ -1,7 +1,7 @@
 // The columns of an offer.
 ghost use Rattle.std.specs.Prelude.{◌≡◌, ℕ, ◌<◌, List, [], ◌∷◌, ◌++◌, length, MatchResult};
 ghost use Rattle.scripts.specs.declared.call.Keyword.TheVariants as key;
-ghost use Rattle.scripts.specs.Meaning.{Polynomial, Columns, Fails, Taken};
+ghost use Rattle.scripts.specs.Meaning.{Polynomial, Columns, Fails, Taken, bar};
 ghost use Rattle.scripts.specs.Words.{words};
 
 use crate::arguments::{Unread, numbers};
@@ -14,6 +14,13 @@ fn polynomial(heap: Global, word: &[u8]) -> Result<Vec<u32>, Unread>
     ensures { MatchResult result (λ v. Polynomial word.now v.items) (λ e. Fails e ((ns : List ℕ) × Polynomial word.now ns)) }
 {
     numbers(heap, Pieces::of(word, Mark::Comma))
+}
+
+// Whether a word is the bar between two columns.
+fn is_bar(word: &[u8]) -> bool
+    ensures { result ≡ bar word.now }
+{
+    word == b"|".as_slice()
 }
 
 // Puts a column behind those that are read, where it has a component.
@@ -34,7 +41,7 @@ fn columns(heap: Global, text: &[u8]) -> Result<Vec<Vec<Vec<u32>>>, Unread>
     let mut read = Vec::new(heap);
     let mut column = Vec::new(heap);
     for word in Words(text) {
-        if word == b"|".as_slice() {
+        if is_bar(word) {
             close(&mut read, column)?;
             column = Vec::new(heap);
         } else {

@@ -1,7 +1,4 @@
-use Rattle.std.proofs.Common.{◌≡◌, ℕ, ◌<◌, Bool, true, false, Decides, rules, List, [], length, vec_items, codes, Vec, sym, refl, ap, ◌∙◌, subst, arith}
-use Rattle.std.proofs.lemmas.Bool.Decides.{Decides-eqb}
-use Rattle.std.proofs.lemmas.Slice.Eq.{bytes_eq-Decides, slice_eq-Decides}
-use Rattle.std.proofs.lemmas.Bool.Decides.{same_from_decides}
+use Rattle.std.proofs.Common.{◌≡◌, ℕ, ◌<◌, rules, List, [], length, vec_items, Vec, sym, refl, ap, ◌∙◌, subst, arith}
 use Rattle.std.specs.declared.alloc.Global.{Global}
 use Rattle.scripts.specs.Meaning.{Polynomial, Columns, bar}
 use Rattle.scripts.specs.Words.{words, words_left, pieces}
@@ -21,10 +18,6 @@ moved : {whole left : List (List ℕ)} {cs ds : List Column_vec} {ps qs : List C
 moved {whole = whole} {left = left} {cs = cs} {qs = qs} e f r =
     subst (λ (l : List Component_vec). Reading whole left cs l) (sym f) (subst (λ (l : List Column_vec). Reading whole left l qs) (sym e) r)
 
--- `==` of a word and a bar
-bar_decides : {w v : List ℕ} {r : Bool} → v ≡ codes "|" → Decides r (w ≡ v) → bar w ≡ r
-bar_decides {w = w} {r = r} e d = sym (same_from_decides r (bar w) (subst (λ (u : List ℕ). Decides r (w ≡ u)) e d) (bytes_eq-Decides w (codes "|")))
-
 is_none : (n : ℕ) → ((0 < n) → ⊥) → n ≡ 0
 is_none n never = omega arith
 
@@ -40,18 +33,16 @@ returns-in_err-close c =
     let w = c.in-Some.word.now in
     let rest = words_left c.next.new.self in
     let left = words_left c.loop-word.word-iterator in
-    let is_bar : bar w ≡ true = bar_decides c.as_slice.ensures (slice_eq-Decides {A = ℕ} Decides-eqb _ _ _ c.eq.ensures) ∙ c.if-eq.true in
     refused (λ v. Columns whole (vec_items v)) ((cs : List Column_vec) × Columns whole cs) c.from_residual.result _ (0 < length (vec_items c.loop-word.column)) c.from_residual.ensures.1 c.in_err-close.ensures
-    (λ never m. empty_refuted whole left _ _ c.loop-word.invariant (pieces bar rest) (pieces_bar left w rest c.in-Some.ensures.steps is_bar) (is_none _ never) m.0 m.1)
+    (λ never m. empty_refuted whole left _ _ c.loop-word.invariant (pieces bar rest) (pieces_bar left w rest c.in-Some.ensures.steps (sym c.is_bar.ensures ∙ c.if-is_bar.true)) (is_none _ never) m.0 m.1)
 
-pub loop-word-preserved-then-eq : goal.loop-word-preserved-then-eq
-loop-word-preserved-then-eq c =
+pub loop-word-preserved-then-is_bar : goal.loop-word-preserved-then-is_bar
+loop-word-preserved-then-is_bar c =
     let w = c.in-Some.word.now in
     let rest = words_left c.next.new.self in
     let left = words_left c.loop-word.word-iterator in
-    let is_bar : bar w ≡ true = bar_decides c.as_slice.ensures (slice_eq-Decides {A = ℕ} Decides-eqb _ _ _ c.eq.ensures) ∙ c.if-eq.true in
-    moved c.in_ok-close.ensures.1 c.new-column-then-eq.ensures.items
-    (reading_next (words c.args.text.now) rest _ (reading_close (words c.args.text.now) left _ c.loop-word.column (pieces bar rest) c.loop-word.invariant (pieces_bar left w rest c.in-Some.ensures.steps is_bar) c.in_ok-close.ensures.0))
+    moved c.in_ok-close.ensures.1 c.new-column-then-is_bar.ensures.items
+    (reading_next (words c.args.text.now) rest _ (reading_close (words c.args.text.now) left _ c.loop-word.column (pieces bar rest) c.loop-word.invariant (pieces_bar left w rest c.in-Some.ensures.steps (sym c.is_bar.ensures ∙ c.if-is_bar.true)) c.in_ok-close.ensures.0))
 
 pub returns-in_err-component : goal.returns-in_err-component
 returns-in_err-component c =
@@ -59,18 +50,16 @@ returns-in_err-component c =
     let w = c.in-Some.word.now in
     let rest = words_left c.next.new.self in
     let left = words_left c.loop-word.word-iterator in
-    let no_bar : bar w ≡ false = bar_decides c.as_slice.ensures (slice_eq-Decides {A = ℕ} Decides-eqb _ _ _ c.eq.ensures) ∙ c.if-eq.false in
     refused (λ v. Columns whole (vec_items v)) ((cs : List Column_vec) × Columns whole cs) c.from_residual-in_err-component.result _ ((ns : List ℕ) × Polynomial w ns) c.from_residual-in_err-component.ensures.1 c.in_err-component.ensures
-    (λ never m. word_refuted whole left _ _ c.loop-word.invariant w rest c.in-Some.ensures.steps no_bar (λ ns h. never (ns, h)) m.0 m.1)
+    (λ never m. word_refuted whole left _ _ c.loop-word.invariant w rest c.in-Some.ensures.steps (sym c.is_bar.ensures ∙ c.if-is_bar.false) (λ ns h. never (ns, h)) m.0 m.1)
 
 pub loop-word-preserved : goal.loop-word-preserved
 loop-word-preserved c =
     let w = c.in-Some.word.now in
     let rest = words_left c.next.new.self in
     let left = words_left c.loop-word.word-iterator in
-    let no_bar : bar w ≡ false = bar_decides c.as_slice.ensures (slice_eq-Decides {A = ℕ} Decides-eqb _ _ _ c.eq.ensures) ∙ c.if-eq.false in
     moved refl c.in_ok-push.ensures.items
-    (reading_word (words c.args.text.now) left _ _ w rest c.in_ok-component.component c.loop-word.invariant c.in-Some.ensures.steps no_bar c.in_ok-component.ensures)
+    (reading_word (words c.args.text.now) left _ _ w rest c.in_ok-component.component c.loop-word.invariant c.in-Some.ensures.steps (sym c.is_bar.ensures ∙ c.if-is_bar.false) c.in_ok-component.ensures)
 
 pub returns-in_err-close-2 : goal.returns-in_err-close-2
 returns-in_err-close-2 c =
