@@ -72,12 +72,11 @@ impl<F: Field> Desk<F> {
                 (*answer)?;
                 Ok(format!(in self.heap; "put")?)
             }
-            Answer::Frame { answer, .. }
-            | Answer::Offer { answer, .. }
-            | Answer::Reopen(answer) => {
-                (*answer)?;
-                self.standing()
-            }
+            Answer::Frame { answer, .. } | Answer::Offer { answer, .. } | Answer::Reopen(answer) =>
+                {
+                    (*answer)?;
+                    self.standing()
+                }
             Answer::Encode { answer, block, .. } => {
                 (*answer)?;
                 let symbols = SymbolsText { symbols: block };
@@ -112,9 +111,7 @@ impl<F: Field> Desk<F> {
     }
 
     fn column(&self, i: u32, j: u32) -> Result<String, Stopped> {
-        let coefficients = self
-            .framed()?
-            .column(&self.frame, i as usize, j as usize)?;
+        let coefficients = self.framed()?.column(&self.frame, i as usize, j as usize)?;
         let codes = CodesText(coefficients);
         Ok(format!(in self.heap; "column {codes}")?)
     }

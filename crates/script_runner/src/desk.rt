@@ -17,8 +17,7 @@ pub struct Desk<F: Field> {
     pub(crate) design: Option<Design>,
     pub(crate) generators: Vec<F>,
     pub(crate) frame: Vec<F>,
-    pub ghost generators_long: { length generators.items ≡ GENERATORS },
-    pub ghost frame_long: { length frame.items ≡ FRAME },
+    ghost long: { length generators.items ≡ 136 },
 }
 
 impl<F: Field> Desk<F> {

@@ -25,7 +25,9 @@ pub struct StandingText<'a>(pub &'a Design);
 
 impl fmt::Display for StandingText<'_> {
     fn fmt<W: fmt::Write>(&self, f: &mut fmt::Formatter<W>) -> fmt::Result {
-        match self.0 {
+        // Bound first: a proof of a match on `self.0` itself is not made.
+        let design = self.0;
+        match design {
             Design::Draft(draft) => write!(f, "draft {}", draft.count()),
             Design::Framed(framed) => {
                 let n = framed.generators();
@@ -96,8 +98,8 @@ impl<F: Field> fmt::Display for FrameText<'_, F> {
         let n = self.framed.generators();
         let divisor = CodesText(self.frame.get(COLUMNS..).unwrap_or(&[]));
         write!(f, "divisor: {divisor}")?;
-        for (j, column) in self.frame.chunks_exact(GENERATORS).take(n).enumerate() {
-            let components = ColumnText(&column[..WIDTH * n]);
+        for (j, column) in self.frame.chunks(GENERATORS).take(n).enumerate() {
+            let components = ColumnText(column.get(..WIDTH * n).unwrap_or(column));
             write!(f, "\ncolumn {j}: {components}")?;
         }
         Ok(())
