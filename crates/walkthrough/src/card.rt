@@ -8,6 +8,7 @@ use cards::sizes::CARD;
 use cards::write::write_card;
 use design::draft::Draft;
 use fields::fault::RefusalText;
+use fields::field::Field;
 use std::alloc::Global;
 use std::fmt;
 use tables::sizes::{GENERATORS, WIDTH};
@@ -72,6 +73,12 @@ impl fmt::Display for Kept {
             f,
             "Byte 13 is damaged, from 1 to 0, and the card is read again:"
         )?;
-        write!(f, "{}", ReadingText { card: &self.damaged })
+        write!(
+            f,
+            "{}",
+            ReadingText {
+                card: &self.damaged
+            }
+        )
     }
 }

@@ -18,10 +18,10 @@ impl<F: Field> fmt::Display for ColumnsText<'_, F> {
     fn fmt<W: fmt::Write>(&self, f: &mut fmt::Formatter<W>) -> fmt::Result {
         let n = self.framed.generators();
         let degrees = self.framed.columns().to_le_bytes();
-        let columns = self.frame.chunks_exact(GENERATORS);
-        for (j, (column, degree)) in columns.zip(degrees.iter()).take(n).enumerate() {
+        let columns = self.frame.chunks(GENERATORS).zip(degrees.iter());
+        for (j, (column, degree)) in columns.take(n).enumerate() {
             let row = RowText {
-                row: &column[..WIDTH * n],
+                row: column.get(..WIDTH * n).unwrap_or(column),
             };
             writeln!(f, "  column {j}, of degree {degree}: {row}")?;
         }

@@ -66,8 +66,9 @@ pub struct DivisorText<'a> {
 
 impl fmt::Display for DivisorText<'_> {
     fn fmt<W: fmt::Write>(&self, f: &mut fmt::Formatter<W>) -> fmt::Result {
+        let generators = self.generators;
         let mut work = [Tone::T0; WORK];
-        if divide_by_gcd(2, self.generators, &mut work).is_none() {
+        if divide_by_gcd(2, generators, &mut work).is_none() {
             return write!(f, "Every generator is zero.");
         }
         let divisor = PolynomialText {
