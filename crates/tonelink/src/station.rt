@@ -31,8 +31,12 @@ impl Station {
             "No Bezout vector is shorter than column 0: one hit on the air spoils at most {} symbols.",
             spoiled(&self.framed)
         )?;
-        if let Err(fault @ LinkFault::Divisor) = encode(&self.framed, &self.generators, &[], &mut [])
-        {
+        if let Err(fault @ LinkFault::Divisor) = encode(
+            &self.framed,
+            &self.generators,
+            &[],
+            &mut [],
+        ) {
             println!(rt; "The link turns it away: {}", RefusalText { fault: &fault })?;
             return Ok(());
         }
@@ -63,7 +67,10 @@ impl Station {
         };
         let sent = SymbolsText { symbols: block };
         let home = SymbolsText { symbols: &message };
-        println!(rt; "  block {sent}: {}, inverted to {home}", VerdictText(clean))?;
+        println!(rt;
+            "  block {sent}: {}, inverted to {home}",
+            VerdictText(clean)
+        )?;
         Ok(())
     }
 }

@@ -143,7 +143,9 @@ fn send(rt: &HostRuntime, station: Station) -> anyhow::Result<Station> {
 // Writes the components of a column, one behind the other.
 fn write_column(table: &mut [Tone], column: &[[Tone; 4]]) {
     for (place, component) in table.chunks_mut(WIDTH).zip(column.iter()) {
-        place[..4].copy_from_slice(component);
+        if let Some(front) = place.get_mut(..component.len()) {
+            front.copy_from_slice(component);
+        }
     }
 }
 
