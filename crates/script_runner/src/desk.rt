@@ -1,5 +1,6 @@
 // The tables of one field, and the design that stands in them.
 ghost use Rattle.std.specs.Prelude.{◌≡◌, length};
+ghost use Rattle.tables.specs.declared.sizes.TheConstants.{GENERATORS};
 
 use crate::elements::zeros;
 use crate::stopped::Reason;
@@ -17,7 +18,7 @@ pub struct Desk<F: Field> {
     pub(crate) design: Option<Design>,
     pub(crate) generators: Vec<F>,
     pub(crate) frame: Vec<F>,
-    ghost long: { length generators.items ≡ 136 },
+    ghost long: { length generators.items ≡ GENERATORS },
 }
 
 impl<F: Field> Desk<F> {

@@ -9,6 +9,7 @@ use texts::list::SymbolsText;
 use texts::verdict::VerdictText;
 use tones::Tone;
 use walkthrough::columns::{ColumnsText, spoiled};
+use walkthrough::designs::{DESIGN_BLOCK, SENT};
 
 // A framed design with its tables.
 #[derive(Drop)]
@@ -45,9 +46,8 @@ impl Station {
 
     // Sends a message over the link, and once more with a hit on the air.
     fn send(&self, rt: &HostRuntime) -> anyhow::Result<()> {
-        let mut block = [Tone::T0; 8];
-        let message = [Tone::T3, Tone::T1];
-        let Ok(_) = encode(&self.framed, &self.generators, &message, &mut block) else {
+        let mut block = [Tone::T0; DESIGN_BLOCK];
+        let Ok(_) = encode(&self.framed, &self.generators, &SENT, &mut block) else {
             return Err(anyhow!("encode was refused"));
         };
         println!(rt; "The message 3 1 is sent, and once more with its fourth symbol hit:")?;
@@ -58,7 +58,7 @@ impl Station {
 
     // Checks a block and inverts it.
     fn receive(&self, rt: &HostRuntime, block: &[Tone]) -> anyhow::Result<()> {
-        let mut message = [Tone::T0; 2];
+        let mut message = [Tone::T0; SENT.len()];
         let Ok(clean) = check(&self.framed, &self.frame, block) else {
             return Err(anyhow!("check was refused"));
         };

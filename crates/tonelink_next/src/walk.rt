@@ -10,11 +10,10 @@ use texts::polynomial::RowText;
 use tones::Tone;
 use walkthrough::card::Kept;
 use walkthrough::columns::{ColumnsText, spoiled};
-use walkthrough::designs::{DESIGN, DivisorText, SHARED, SLIPS};
+use walkthrough::designs::{
+    DESIGN, DESIGN_BLOCK, DivisorText, SENT, SHARED, SHARED_BLOCK, SLIPS,
+};
 use walkthrough::products::ProductsText;
-
-// The message that is sent.
-const SENT: [Tone; 2] = [Tone::T3, Tone::T1];
 
 // Two columns of two components, each by its coefficients from power 0 up.
 type Columns = [[[Tone; 4]; 2]; 2];
@@ -97,7 +96,7 @@ fn receive(rt: &HostRuntime, station: Station, block: &[Tone]) -> anyhow::Result
     };
     let invert = Request::Invert {
         block: Vec::from_slice(heap, block)?,
-        message: vec![in heap; Tone::T0; 2]?,
+        message: vec![in heap; Tone::T0; SENT.len()]?,
     };
     let requests = vec![in heap; check, invert]?;
     station.run(rt, &["check", "invert"], requests)
@@ -126,7 +125,7 @@ fn compare(rt: &HostRuntime, answered: &Answered) -> anyhow::Result<()> {
 // Sends the message 3 1, then hits a symbol of its block.
 fn send(rt: &HostRuntime, station: Station) -> anyhow::Result<Station> {
     println!(rt; "The message 3 1 is encoded, and its block checked and inverted:")?;
-    let mut encoded = encode(rt, station, 8)?;
+    let mut encoded = encode(rt, station, DESIGN_BLOCK)?;
     let Some(Answer::Encode { mut block, .. }) = encoded.answers.pop() else {
         return Err(anyhow!("encode was refused"));
     };
@@ -192,7 +191,7 @@ fn factor(rt: &HostRuntime) -> anyhow::Result<()> {
     println!(rt; "{divisor}")?;
     let framed = frame(rt, station)?;
     println!(rt; "The message 3 1 is to be sent over it:")?;
-    encode(rt, framed, 6)?;
+    encode(rt, framed, SHARED_BLOCK)?;
     Ok(())
 }
 
