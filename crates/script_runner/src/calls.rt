@@ -214,7 +214,7 @@ impl<F: Field> Desk<F> {
     }
 
     // Performs a call, and says what is printed of it. Err: no memory.
-    pub fn call(&mut self, call: &Call) -> Result<String, AllocError> {
+    pub(crate) fn call(&mut self, call: &Call) -> Result<String, AllocError> {
         self.answered(call).or_else(|stopped| match stopped {
             Stopped::NoMemory => Err(AllocError),
             _ => format!(in self.heap; "{stopped}"),

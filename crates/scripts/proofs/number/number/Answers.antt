@@ -1,12 +1,16 @@
-use Rattle.std.proofs.Common.{◌≡◌, ◌+◌, ◌*◌, ◌<◌, length, take, ap, sym, ◌∙◌, arith}
+use Rattle.std.proofs.Common.{◌≡◌, ℕ, ◌+◌, ◌-◌, ◌*◌, ◌^◌, ◌<◌, min, length, take, ap, sym, ◌∙◌, arith}
 use Rattle.std.proofs.lemmas.Int.Digits.{digits_value_more, digits_more}
+use Rattle.std.proofs.lemmas.Str.Parse.{digit_at}
 use Rattle.std.specs.Char.{digit_value}
 use Rattle.std.specs.Str.Parse.{digits_value}
-use Rattle.scripts.proofs.Decimal.{digit_at, saturates}
 use Rattle.scripts.proofs.number.number.Goals as goal
 
+-- one more digit
+saturates : (v d n r s : ℕ) → n ≡ min v (2 ^ 32 - 1) → r ≡ min (n * 10) (2 ^ 32 - 1) → s ≡ min (r + d) (2 ^ 32 - 1) → s ≡ min (v * 10 + d) (2 ^ 32 - 1)
+saturates v d n r s a b c = omega (arith, a, b, c)
+
 pub returns-in_err-digit : goal.returns-in_err-digit
-returns-in_err-digit c = rw c.from_residual.ensures (λ w. c.in_err-digit.ensures.value (rw c.from.ensures (digit_at _ _ (omega arith) w.1)))
+returns-in_err-digit c = rw c.from_residual.ensures (λ w. let range = digit_at c.args.word.now c.loop-b.b-index w.1 (omega arith) in omega (arith, range, c.in_err-digit.ensures.cases))
 
 pub loop-b-preserved : goal.loop-b-preserved
 loop-b-preserved c =
