@@ -10,9 +10,7 @@ use texts::polynomial::RowText;
 use tones::Tone;
 use walkthrough::card::Kept;
 use walkthrough::columns::{ColumnsText, spoiled};
-use walkthrough::designs::{
-    DESIGN, DESIGN_BLOCK, DivisorText, SENT, SHARED, SHARED_BLOCK, SLIPS,
-};
+use walkthrough::designs::{DESIGN, DESIGN_BLOCK, DivisorText, SENT, SHARED, SHARED_BLOCK, SLIPS};
 use walkthrough::products::ProductsText;
 
 // Two columns of two components, each by its coefficients from power 0 up.

@@ -1,5 +1,6 @@
 // A design's card: written, read back, and read damaged.
-ghost use Rattle.std.specs.Prelude.{IfOk};
+ghost use Rattle.std.specs.Prelude.{◌≡◌, IfOk};
+ghost use Rattle.std.specs.List.{slice_set};
 ghost use Rattle.cards.specs.RoundTrip.{ReadsBack};
 
 use anyhow::anyhow;
@@ -47,7 +48,8 @@ pub struct Kept {
 impl Kept {
     // The card of a design.
     pub fn of(heap: Global, draft: &Draft, table: &[Tone]) -> anyhow::Result<Kept>
-        ensures { IfOk result (λ kept. ReadsBack ⟦<Tone as Field>⟧.ops ⟦<Tone as Field>⟧.member ⟦<Tone as Field>⟧.number ⟦<Tone as Field>⟧.order ⟦<Tone as Field>⟧.tag draft.now.n table.now kept.card.items) }
+        ensures card { IfOk result (λ kept. ReadsBack ⟦<Tone as Field>⟧.ops ⟦<Tone as Field>⟧.member ⟦<Tone as Field>⟧.number ⟦<Tone as Field>⟧.order ⟦<Tone as Field>⟧.tag draft.now.n table.now kept.card.items) }
+        ensures damaged { IfOk result (λ kept. kept.damaged.items ≡ slice_set kept.card.items 13 0) }
     {
         let mut buffer = [0u8; CARD];
         let Ok(length) = write_card(draft, table, &mut buffer) else {

@@ -49,6 +49,7 @@ pub const SENT: [Tone; 2] = [Tone::T3, Tone::T1];
 
 // How long its block is over DESIGN, and over SHARED: two streams, each as long as the message and the design's degree.
 pub const DESIGN_BLOCK: usize = 2 * (SENT.len() + 2);
+
 pub const SHARED_BLOCK: usize = 2 * (SENT.len() + 1);
 
 // Two slips of the hand.
