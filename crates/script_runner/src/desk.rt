@@ -1,4 +1,7 @@
 // The tables of one field, and the design that stands in them.
+ghost use Rattle.std.specs.Prelude.{◌≡◌, length};
+ghost use Rattle.tables.specs.declared.sizes.TheConstants.{GENERATORS};
+
 use crate::elements::zeros;
 use crate::stopped::Reason;
 use design::draft::Draft;
@@ -10,15 +13,19 @@ use tables::sizes::{FRAME, GENERATORS};
 
 #[derive(Drop)]
 pub struct Desk<F: Field> {
-    pub design: Option<Design>,
-    pub generators: Vec<F>,
-    pub frame: Vec<F>,
+    // What the tables, and those that a call is brought, are allocated from.
+    pub(crate) heap: Global,
+    pub(crate) design: Option<Design>,
+    pub(crate) generators: Vec<F>,
+    pub(crate) frame: Vec<F>,
+    ghost long: { length generators.items ≡ GENERATORS },
 }
 
 impl<F: Field> Desk<F> {
     // Tables of zeros, with no design.
     pub fn new(heap: Global) -> Result<Desk<F>, AllocError> {
         Ok(Desk {
+            heap,
             design: None,
             generators: zeros(heap, GENERATORS)?,
             frame: zeros(heap, FRAME)?,

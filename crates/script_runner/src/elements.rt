@@ -1,10 +1,14 @@
 // Numbers of a script as elements and as bytes.
+ghost use Rattle.std.specs.Prelude.{◌≡◌, length, IfOk};
+
 use crate::stopped::{Reason, Stopped};
 use fields::field::Field;
 use std::alloc::{AllocError, Global};
 
 // A table of so many zeros.
-pub fn zeros<F: Field>(heap: Global, n: usize) -> Result<Vec<F>, AllocError> {
+pub fn zeros<F: Field>(heap: Global, n: usize) -> Result<Vec<F>, AllocError>
+    ensures { IfOk result (λ v. length v.items ≡ n) }
+{
     Ok(vec![in heap; F::zero(); n]?)
 }
 

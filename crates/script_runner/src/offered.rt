@@ -4,16 +4,16 @@ use crate::stopped::Stopped;
 use fields::fault::FieldFault;
 use fields::field::Field;
 use std::alloc::Global;
-use tables::sizes::{COLUMNS, GENERATORS, WIDTH};
+use tables::sizes::{COLUMNS, GENERATORS, MAX_COUNT, WIDTH};
 
-// Whether a column has at most 8 components of at most 17 coefficients.
+// Whether a column has no more components than a frame has, and each no more coefficients.
 fn column_fits(column: &[Vec<u32>]) -> bool {
-    column.len() <= 8 && column.iter().all(|component| component.len() <= WIDTH)
+    column.len() <= MAX_COUNT && column.iter().all(|component| component.len() <= WIDTH)
 }
 
-// Whether there are at most 8 columns, and each fits.
+// Whether there are no more columns than in a frame, and each fits.
 fn columns_fit(columns: &[Vec<Vec<u32>>]) -> bool {
-    columns.len() <= 8 && columns.iter().all(|column| column_fits(column))
+    columns.len() <= MAX_COUNT && columns.iter().all(|column| column_fits(column))
 }
 
 // Writes the coefficients of a component, as far as there are places.
@@ -46,7 +46,7 @@ fn write_columns<F: Field>(table: &mut [F], columns: &[Vec<Vec<u32>>]) -> Result
     Ok(())
 }
 
-// The offered table. Columns that do not fit give a table that is longer by 1, so that the call itself refuses it, with its own number, layer and place.
+// The offered table. Columns that do not fit give a table that is longer by 1, so that the call itself refuses it.
 pub fn offered<F: Field>(heap: Global, columns: &[Vec<Vec<u32>>]) -> Result<Vec<F>, Stopped> {
     let length = if columns_fit(columns) {
         COLUMNS

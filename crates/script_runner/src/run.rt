@@ -1,5 +1,4 @@
 // A whole script.
-use crate::calls::run_call;
 use crate::desk::Desk;
 use nibbles::Nibble;
 use scripts::call::{Call, FieldName};
@@ -40,10 +39,10 @@ impl Place {
             *self = Place::of(heap, *name)?;
         }
         match self {
-            Place::Tones(desk) => run_call(heap, desk, call),
-            Place::Nibbles(desk) => run_call(heap, desk, call),
-            Place::Bytes(desk) => run_call(heap, desk, call),
-            Place::TonePairs(desk) => run_call(heap, desk, call),
+            Place::Tones(desk) => desk.call(call),
+            Place::Nibbles(desk) => desk.call(call),
+            Place::Bytes(desk) => desk.call(call),
+            Place::TonePairs(desk) => desk.call(call),
         }
     }
 

@@ -4,6 +4,7 @@ use design::fault::DesignFault;
 use fields::fault::{FieldFault, Refusal};
 use link::fault::LinkFault;
 use runs::perform::Unperformed;
+use runs::request::Design;
 use std::alloc::{AllocError, AllocFailed};
 use std::fmt;
 
@@ -14,6 +15,16 @@ pub enum Reason {
     Draft,
     Framed,
     NoByte,
+}
+
+impl Reason {
+    // Why a call is not admitted that wants the other kind of design.
+    pub fn of(design: &Design) -> Reason {
+        match design {
+            Design::Draft(_) => Reason::Draft,
+            Design::Framed(_) => Reason::Framed,
+        }
+    }
 }
 
 impl fmt::Display for Reason {
@@ -86,7 +97,7 @@ impl From<CardFault> for Stopped {
     }
 }
 
-// Writes a refusal: its number, layer, place and reason.
+// Writes a refusal: its number, layer, place and reason. `RefusalText` has commas, which no line of a script's output has.
 fn write_refusal<W: fmt::Write, E: Refusal + fmt::Display>(
     f: &mut fmt::Formatter<W>,
     fault: &E,

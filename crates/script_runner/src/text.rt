@@ -1,50 +1,16 @@
 // What is printed of the answers.
-ghost use Rattle.std.specs.Iterator.{IsFinite};
-
 use design::framed::Framed;
 use fields::field::Field;
+use runs::request::Design;
 use std::fmt;
-use tables::sizes::{COLUMNS, FRAME, WIDTH};
-
-// Writes items, with a blank before each.
-fn blanks<W: fmt::Write, T: fmt::Display + Drop, I: Iterator<Item = T> + Drop>(
-    f: &mut fmt::Formatter<W>,
-    items: I,
-) -> fmt::Result
-    requires can { I.can_next items }
-    requires ends { IsFinite (I.remaining items) }
-{
-    for item in items {
-        write!(f, " {item}")?;
-    }
-    Ok(())
-}
-
-// Bytes, with a blank before each.
-#[derive(Drop)]
-pub struct BytesText<'a>(pub &'a [u8]);
-
-impl fmt::Display for BytesText<'_> {
-    fn fmt<W: fmt::Write>(&self, f: &mut fmt::Formatter<W>) -> fmt::Result {
-        blanks(f, self.0.iter())
-    }
-}
-
-// The codes of symbols, with a blank before each.
-#[derive(Drop)]
-pub struct SymbolsText<'a, F: Field>(pub &'a [F]);
-
-impl<F: Field> fmt::Display for SymbolsText<'_, F> {
-    fn fmt<W: fmt::Write>(&self, f: &mut fmt::Formatter<W>) -> fmt::Result {
-        blanks(f, self.0.iter().map(|x| x.code()))
-    }
-}
+use tables::sizes::{COLUMNS, GENERATORS, WIDTH};
+use texts::list::BytesText;
 
 // A polynomial: its codes from power 0 up, with commas.
 #[derive(Drop)]
-pub struct PolynomialText<'a, F: Field>(pub &'a [F]);
+pub struct CodesText<'a, F: Field>(pub &'a [F]);
 
-impl<F: Field> fmt::Display for PolynomialText<'_, F> {
+impl<F: Field> fmt::Display for CodesText<'_, F> {
     fn fmt<W: fmt::Write>(&self, f: &mut fmt::Formatter<W>) -> fmt::Result {
         let Some(last) = self.0.iter().rposition(|x| x.code() != 0) else {
             return write!(f, "0");
@@ -53,23 +19,70 @@ impl<F: Field> fmt::Display for PolynomialText<'_, F> {
     }
 }
 
-// A column of a frame, its components with a blank before each.
+// Where a design stands, by its numbers.
 #[derive(Drop)]
-struct ColumnText<'a, F: Field> {
-    framed: &'a Framed,
-    frame: &'a [F],
-    j: usize,
+pub struct StandingText<'a>(pub &'a Design);
+
+impl fmt::Display for StandingText<'_> {
+    fn fmt<W: fmt::Write>(&self, f: &mut fmt::Formatter<W>) -> fmt::Result {
+        // Bound first: a proof of a match on `self.0` itself is not made.
+        let design = self.0;
+        match design {
+            Design::Draft(draft) => write!(f, "draft {}", draft.count()),
+            Design::Framed(framed) => {
+                let n = framed.generators();
+                let degree = framed.degree();
+                let divisor = framed.divisor_degree();
+                let columns = framed.columns().to_le_bytes();
+                let degrees = BytesText {
+                    bytes: &columns[..n],
+                };
+                write!(
+                    f,
+                    "framed {n} degree {degree} divisor-degree {divisor} degrees {degrees}"
+                )
+            }
+        }
+    }
 }
+
+// A generator and its number.
+#[derive(Drop)]
+struct GeneratorText<'a, F: Field> {
+    i: usize,
+    coefficients: &'a [F],
+}
+
+impl<F: Field> fmt::Display for GeneratorText<'_, F> {
+    fn fmt<W: fmt::Write>(&self, f: &mut fmt::Formatter<W>) -> fmt::Result {
+        let i = self.i;
+        let codes = CodesText(self.coefficients);
+        write!(f, "generator {i}: {codes}")
+    }
+}
+
+// The generators, each on a line.
+#[derive(Drop)]
+pub struct GeneratorsText<'a, F: Field>(pub &'a [F]);
+
+impl<F: Field> fmt::Display for GeneratorsText<'_, F> {
+    fn fmt<W: fmt::Write>(&self, f: &mut fmt::Formatter<W>) -> fmt::Result {
+        let generators = self
+            .0
+            .chunks(WIDTH)
+            .enumerate()
+            .map(|(i, coefficients)| GeneratorText { i, coefficients });
+        f.write_joined(generators, "\n")
+    }
+}
+
+// A column by its components.
+#[derive(Drop)]
+struct ColumnText<'a, F: Field>(&'a [F]);
 
 impl<F: Field> fmt::Display for ColumnText<'_, F> {
     fn fmt<W: fmt::Write>(&self, f: &mut fmt::Formatter<W>) -> fmt::Result {
-        for i in 0..self.framed.generators() {
-            if let Ok(coefficients) = self.framed.column(self.frame, i, self.j) {
-                let polynomial = PolynomialText(coefficients);
-                write!(f, " {polynomial}")?;
-            }
-        }
-        Ok(())
+        f.write_joined(self.0.chunks(WIDTH).map(|x| CodesText(x)), " ")
     }
 }
 
@@ -82,35 +95,12 @@ pub struct FrameText<'a, F: Field> {
 
 impl<F: Field> fmt::Display for FrameText<'_, F> {
     fn fmt<W: fmt::Write>(&self, f: &mut fmt::Formatter<W>) -> fmt::Result {
-        if let Some(coefficients) = self.frame.get(COLUMNS..FRAME) {
-            let divisor = PolynomialText(coefficients);
-            write!(f, "\ndivisor: {divisor}")?;
-        }
-        for j in 0..self.framed.generators() {
-            let column = ColumnText {
-                framed: self.framed,
-                frame: self.frame,
-                j,
-            };
-            write!(f, "\ncolumn {j}:{column}")?;
-        }
-        Ok(())
-    }
-}
-
-// The generators, each on a line.
-#[derive(Drop)]
-pub struct GeneratorsText<'a, F: Field> {
-    pub n: usize,
-    pub generators: &'a [F],
-}
-
-impl<F: Field> fmt::Display for GeneratorsText<'_, F> {
-    fn fmt<W: fmt::Write>(&self, f: &mut fmt::Formatter<W>) -> fmt::Result {
-        for (i, coefficients) in self.generators.chunks(WIDTH).take(self.n).enumerate() {
-            let newline = if i == 0 { "" } else { "\n" };
-            let polynomial = PolynomialText(coefficients);
-            write!(f, "{newline}generator {i}: {polynomial}")?;
+        let n = self.framed.generators();
+        let divisor = CodesText(self.frame.get(COLUMNS..).unwrap_or(&[]));
+        write!(f, "divisor: {divisor}")?;
+        for (j, column) in self.frame.chunks(GENERATORS).take(n).enumerate() {
+            let components = ColumnText(column.get(..WIDTH * n).unwrap_or(column));
+            write!(f, "\ncolumn {j}: {components}")?;
         }
         Ok(())
     }

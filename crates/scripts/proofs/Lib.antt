@@ -1,6 +1,4 @@
 pub mod Bars
-pub mod Decimal
 pub mod Each
 pub mod Following
 pub mod Pieces
-pub mod Spelled

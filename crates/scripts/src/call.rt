@@ -1,8 +1,28 @@
 // The calls of a script.
-ghost use Rattle.std.specs.Prelude.{◌≡◌, MatchOption, ◌≢◌};
+ghost use Rattle.std.specs.Prelude.{◌≡◌, ℕ, List, MatchOption, ◌≢◌};
+ghost use Rattle.std.specs.List.{Contains};
 ghost use Rattle.scripts.specs.declared.call.FieldName.{FieldName as AField};
 ghost use Rattle.scripts.specs.declared.call.Keyword.{Keyword as AKeyword};
 ghost use Rattle.scripts.specs.Spelling.{spelled, named};
+
+use std::fmt;
+
+// What one word of a script spells.
+trait Spelled: Copy {
+    ghost spelling: { Self → List ℕ };
+
+    // The word.
+    fn spell(self) -> &'static str
+        ensures { result.now ≡ spelling self };
+}
+
+// The value that a word spells, among all of its type. Most words spell none, which is no error: so `of` below, and no `TryFrom`.
+fn spelled_by<S: Spelled>(all: &[S], word: &[u8]) -> Option<S>
+    requires { (x : S) → Contains all.now x }
+    ensures { MatchOption result ((x : S) → word.now ≢ S.spelling x) (λ x. word.now ≡ S.spelling x) }
+{
+    all.iter().copied().find(|x| word == x.spell().as_bytes())
+}
 
 // The fields that a script can name.
 #[derive(Clone, Copy, PartialEq, Eq, Debug)]
@@ -14,6 +34,13 @@ pub enum FieldName {
 }
 
 impl FieldName {
+    const ALL: [FieldName; 4] = [
+        FieldName::Tones,
+        FieldName::Nibbles,
+        FieldName::Bytes,
+        FieldName::TonePairs,
+    ];
+
     // The word that names the field.
     pub fn word(self) -> &'static str
         ensures { result.now ≡ named self }
@@ -30,15 +57,21 @@ impl FieldName {
     pub fn of(word: &[u8]) -> Option<FieldName>
         ensures { MatchOption result ((f : AField) → word.now ≢ named f) (λ f. word.now ≡ named f) }
     {
-        let all = [
-            FieldName::Tones,
-            FieldName::Nibbles,
-            FieldName::Bytes,
-            FieldName::TonePairs,
-        ];
-        all.iter()
-            .copied()
-            .find(|name| word == name.word().as_bytes())
+        spelled_by(&FieldName::ALL, word)
+    }
+}
+
+impl Spelled for FieldName {
+    ghost spelling = { named };
+
+    fn spell(self) -> &'static str {
+        self.word()
+    }
+}
+
+impl fmt::Display for FieldName {
+    fn fmt<W: fmt::Write>(&self, f: &mut fmt::Formatter<W>) -> fmt::Result {
+        f.write_str(self.word())
     }
 }
 
@@ -61,6 +94,22 @@ pub enum Keyword {
 }
 
 impl Keyword {
+    const ALL: [Keyword; 13] = [
+        Keyword::Field,
+        Keyword::Begin,
+        Keyword::Put,
+        Keyword::Frame,
+        Keyword::Reopen,
+        Keyword::Column,
+        Keyword::Encode,
+        Keyword::Check,
+        Keyword::Invert,
+        Keyword::Card,
+        Keyword::Read,
+        Keyword::Offer,
+        Keyword::Show,
+    ];
+
     // The word itself.
     pub fn word(self) -> &'static str
         ensures { result.now ≡ spelled self }
@@ -105,24 +154,15 @@ impl Keyword {
     pub fn of(word: &[u8]) -> Option<Keyword>
         ensures { MatchOption result ((k : AKeyword) → word.now ≢ spelled k) (λ k. word.now ≡ spelled k) }
     {
-        let all = [
-            Keyword::Field,
-            Keyword::Begin,
-            Keyword::Put,
-            Keyword::Frame,
-            Keyword::Reopen,
-            Keyword::Column,
-            Keyword::Encode,
-            Keyword::Check,
-            Keyword::Invert,
-            Keyword::Card,
-            Keyword::Read,
-            Keyword::Offer,
-            Keyword::Show,
-        ];
-        all.iter()
-            .copied()
-            .find(|keyword| word == keyword.word().as_bytes())
+        spelled_by(&Keyword::ALL, word)
+    }
+}
+
+impl Spelled for Keyword {
+    ghost spelling = { spelled };
+
+    fn spell(self) -> &'static str {
+        self.word()
     }
 }
 

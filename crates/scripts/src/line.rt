@@ -30,7 +30,8 @@ impl fmt::Display for Expected {
     }
 }
 
-// What a line is.
+// What a line is. A wrong line is no failure to read it, since the script goes on, and a blank line is no call:
+// so three outcomes, and no results in one another.
 #[derive(Drop)]
 pub enum Line {
     // Blanks and a comment, or less.

@@ -1,7 +1,7 @@
 // The columns of an offer.
-ghost use Rattle.std.specs.Prelude.{ℕ, List, MatchResult};
+ghost use Rattle.std.specs.Prelude.{◌≡◌, ℕ, ◌<◌, List, [], ◌∷◌, ◌++◌, length, MatchResult};
 ghost use Rattle.scripts.specs.declared.call.Keyword.TheVariants as key;
-ghost use Rattle.scripts.specs.Meaning.{Polynomial, Columns, Fails, Taken};
+ghost use Rattle.scripts.specs.Meaning.{Polynomial, Columns, Fails, Taken, bar};
 ghost use Rattle.scripts.specs.Words.{words};
 
 use crate::arguments::{Unread, numbers};
@@ -16,29 +16,41 @@ fn polynomial(heap: Global, word: &[u8]) -> Result<Vec<u32>, Unread>
     numbers(heap, Pieces::of(word, Mark::Comma))
 }
 
+// Whether a word is the bar between two columns.
+fn is_bar(word: &[u8]) -> bool
+    ensures { result ≡ bar word.now }
+{
+    word == b"|".as_slice()
+}
+
+// Puts a column behind those that are read, where it has a component.
+fn close(read: &mut Vec<Vec<Vec<u32>>>, column: Vec<Vec<u32>>) -> Result<(), Unread>
+    ensures { MatchResult result (λ _. (0 < length column.items) × (read.new.items ≡ read.old.items ++ column ∷ [])) (λ e. Fails e (0 < length column.items)) }
+{
+    if column.is_empty() {
+        return Err(Unread::NoFit);
+    }
+    read.push(column)?;
+    Ok(())
+}
+
 // The columns between the bars, with a component at least in each.
 fn columns(heap: Global, text: &[u8]) -> Result<Vec<Vec<Vec<u32>>>, Unread>
     ensures { MatchResult result (λ v. Columns (words text.now) v.items) (λ e. Fails e ((cs : _) × Columns (words text.now) cs)) }
 {
-    let mut done = Vec::new(heap);
+    let mut read = Vec::new(heap);
     let mut column = Vec::new(heap);
     for word in Words(text) {
-        if word == b"|".as_slice() {
-            if column.is_empty() {
-                return Err(Unread::NoFit);
-            }
-            done.push(column)?;
+        if is_bar(word) {
+            close(&mut read, column)?;
             column = Vec::new(heap);
         } else {
             let component = polynomial(heap, word)?;
             column.push(component)?;
         }
     }
-    if column.is_empty() {
-        return Err(Unread::NoFit);
-    }
-    done.push(column)?;
-    Ok(done)
+    close(&mut read, column)?;
+    Ok(read)
 }
 
 // An offer of columns.

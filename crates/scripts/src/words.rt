@@ -92,7 +92,8 @@ pub(crate) trait Parts<'a>: Iterator<Item = &'a [u8]> + Drop {
     ghost steps: { (s : Self) (r : _) (t : Self) → Self.next_gives s r t → YieldsFirstRef parts s r t };
 }
 
-// The pieces of a text that are left, which a mark cuts apart.
+// The pieces of a text that are left, which a mark cuts apart. A type of its own, and not std's `split`:
+// a clause can name what is left of it.
 #[derive(Clone, Copy)]
 pub struct Pieces<'a> {
     pub left: Option<&'a [u8]>,

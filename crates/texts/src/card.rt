@@ -1,21 +1,11 @@
 // A card as text: its bytes, with what each part means.
-use crate::separated::separated;
+use crate::list::BytesText;
 use std::fmt;
 
 // The card that stands in the first bytes of a buffer.
 #[derive(Drop)]
 pub struct CardText<'a> {
     pub bytes: &'a [u8],
-}
-
-// Bytes with a blank between.
-#[derive(Drop)]
-struct BytesText<'a>(&'a [u8]);
-
-impl fmt::Display for BytesText<'_> {
-    fn fmt<W: fmt::Write>(&self, f: &mut fmt::Formatter<W>) -> fmt::Result {
-        separated(f, " ", self.0.iter())
-    }
 }
 
 // A record's number, and its four bytes.
@@ -28,7 +18,7 @@ struct RecordText<'a> {
 impl fmt::Display for RecordText<'_> {
     fn fmt<W: fmt::Write>(&self, f: &mut fmt::Formatter<W>) -> fmt::Result {
         let number = self.number;
-        let shown = BytesText(self.bytes);
+        let shown = BytesText { bytes: self.bytes };
         let [power, low, high, next] = *self.bytes else {
             return writeln!(f, "  {shown}: no whole record");
         };
@@ -53,7 +43,7 @@ impl fmt::Display for CardText<'_> {
         writeln!(f, "  {n}: the number of generators")?;
         writeln!(f, "  {m}: the number of records")?;
         let (heads, records) = rest.split_at(usize::from(*n).min(rest.len()));
-        let shown = BytesText(heads);
+        let shown = BytesText { bytes: heads };
         writeln!(f, "  {shown}: the first record of each generator")?;
         for (i, bytes) in records.chunks(4).take(usize::from(*m)).enumerate() {
             let number = i + 1;

@@ -1,6 +1,7 @@
-// Texts that the programs print: polynomials and symbols by their codes, and cards.
+// Texts that the programs print: polynomials and symbols by their codes, bytes, verdicts and cards.
 #![tactic(auto)]
 
 pub mod card;
+pub mod list;
 pub mod polynomial;
-mod separated;
+pub mod verdict;

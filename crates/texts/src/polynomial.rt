@@ -1,5 +1,4 @@
 // Polynomials as text, their coefficients by code.
-use crate::separated::separated;
 use fields::field::Field;
 use std::fmt;
 use tables::sizes::WIDTH;
@@ -44,36 +43,24 @@ impl<F: Field> fmt::Display for PolynomialText<'_, F> {
                 power,
             })
             .filter(|term| term.code != 0);
-        separated(f, " + ", terms)
+        f.write_joined(terms, " + ")
     }
 }
 
-// The first n polynomials of a table of generators.
+// A row of polynomials, one behind the other: generators, or the components of a column.
 #[derive(Drop)]
 pub struct RowText<'a, F: Field> {
-    pub n: usize,
-    pub table: &'a [F],
+    pub row: &'a [F],
 }
 
 impl<F: Field> fmt::Display for RowText<'_, F> {
     fn fmt<W: fmt::Write>(&self, f: &mut fmt::Formatter<W>) -> fmt::Result {
         let polynomials = self
-            .table
+            .row
             .chunks(WIDTH)
-            .take(self.n)
             .map(|coefficients| PolynomialText { coefficients });
-        separated(f, ", ", polynomials)
-    }
-}
-
-// Symbols by their codes, with a blank between.
-#[derive(Drop)]
-pub struct SymbolsText<'a, F: Field> {
-    pub symbols: &'a [F],
-}
-
-impl<F: Field> fmt::Display for SymbolsText<'_, F> {
-    fn fmt<W: fmt::Write>(&self, f: &mut fmt::Formatter<W>) -> fmt::Result {
-        separated(f, " ", self.symbols.iter().map(|x| x.code()))
+        write!(f, "(")?;
+        f.write_joined(polynomials, ", ")?;
+        write!(f, ")")
     }
 }

@@ -3,7 +3,8 @@ use fields::fault::{Refusal, RefusalText};
 use fields::field::Field;
 use runs::request::Answer;
 use std::fmt;
-use texts::polynomial::SymbolsText;
+use texts::list::SymbolsText;
+use texts::verdict::VerdictText;
 
 // What a call gives where it is granted, with its answer.
 #[derive(Drop)]
@@ -28,8 +29,9 @@ impl<F: Field> fmt::Display for AnswerText<'_, F> {
     fn fmt<W: fmt::Write>(&self, f: &mut fmt::Formatter<W>) -> fmt::Result {
         match self.answer {
             Answer::Put(answer) => OutcomeText("written", answer).fmt(f),
-            Answer::Frame { answer, .. } => OutcomeText("framed", answer).fmt(f),
-            Answer::Offer { answer, .. } => OutcomeText("framed", answer).fmt(f),
+            Answer::Frame { answer, .. } | Answer::Offer { answer, .. } => {
+                OutcomeText("framed", answer).fmt(f)
+            }
             Answer::Reopen(answer) => OutcomeText("reopened", answer).fmt(f),
             Answer::Encode { answer, block, .. } => {
                 OutcomeText(SymbolsText { symbols: block }, answer).fmt(f)
@@ -40,8 +42,7 @@ impl<F: Field> fmt::Display for AnswerText<'_, F> {
                 ..
             } => OutcomeText(SymbolsText { symbols: message }, answer).fmt(f),
             Answer::Check { answer, .. } => match answer {
-                Ok(true) => write!(f, "clean"),
-                Ok(false) => write!(f, "unclean"),
+                Ok(clean) => VerdictText(*clean).fmt(f),
                 Err(fault) => RefusalText { fault }.fmt(f),
             },
             Answer::NotAdmitted(_) => write!(f, "not admitted"),

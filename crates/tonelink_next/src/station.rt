@@ -4,7 +4,6 @@ use anyhow::anyhow;
 use design::draft::Draft;
 use runs::perform::perform;
 use runs::request::{Answer, Design, Request};
-use std::alloc::Global;
 use std::fmt;
 use tables::sizes::{FRAME, GENERATORS};
 use tones::Tone;
@@ -13,8 +12,8 @@ use tones::Tone;
 #[derive(Drop)]
 pub struct Station {
     pub design: Design,
-    pub generators: Vec<Tone>,
-    pub frame: Vec<Tone>,
+    pub generators: [Tone; GENERATORS],
+    pub frame: [Tone; FRAME],
 }
 
 // A station after a list of requests, with the answer to each.
@@ -26,16 +25,15 @@ pub struct Answered {
 
 impl Station {
     // A new design of 2 generators.
-    pub(crate) fn begin(heap: Global) -> anyhow::Result<Station> {
-        let mut generators = vec![in heap; Tone::T0; GENERATORS]?;
-        let frame = vec![in heap; Tone::T0; FRAME]?;
+    pub(crate) fn begin() -> anyhow::Result<Station> {
+        let mut generators = [Tone::T0; GENERATORS];
         let Ok(draft) = Draft::begin(2, &mut generators) else {
             return Err(anyhow!("begin was refused"));
         };
         Ok(Station {
             design: Design::Draft(draft),
             generators,
-            frame,
+            frame: [Tone::T0; FRAME],
         })
     }
 

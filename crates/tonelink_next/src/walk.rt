@@ -6,33 +6,38 @@ use history::request::Request as Entry;
 use runs::request::{Answer, Design, Request};
 use std::alloc::Global;
 use tables::sizes::{COLUMNS, GENERATORS, WIDTH, WORK};
+use texts::polynomial::RowText;
 use tones::Tone;
-use walkthrough::card::keep;
-use walkthrough::columns::{show_columns, spoiled};
-use walkthrough::designs::{DESIGN, SHARED, SLIPS, show_divisor, show_generators};
-use walkthrough::products::show_products;
+use walkthrough::card::Kept;
+use walkthrough::columns::{ColumnsText, spoiled};
+use walkthrough::designs::{DESIGN, DESIGN_BLOCK, DivisorText, SENT, SHARED, SHARED_BLOCK, SLIPS};
+use walkthrough::products::ProductsText;
 
-// The message that is sent.
-const SENT: [Tone; 2] = [Tone::T3, Tone::T1];
+// Two columns of two components, each by its coefficients from power 0 up.
+type Columns = [[[Tone; 4]; 2]; 2];
 
-// Columns offered for (s^2, 1 + s): (1, 1 + 30s) and (1 + s, 30s^2). A coefficient stands GENERATORS places further for each column before it, WIDTH for each component, and 1 for each power.
-const GOOD: [(usize, Tone); 6] = [
-    (0, Tone::T1),
-    (WIDTH, Tone::T1),
-    (WIDTH + 1, Tone::T30),
-    (GENERATORS, Tone::T1),
-    (GENERATORS + 1, Tone::T1),
-    (GENERATORS + WIDTH + 2, Tone::T30),
+// The columns (1, 1 + 30s) and (1 + s, 30s^2), offered for (s^2, 1 + s).
+const GOOD: Columns = [
+    [
+        [Tone::T1, Tone::T0, Tone::T0, Tone::T0],
+        [Tone::T1, Tone::T30, Tone::T0, Tone::T0],
+    ],
+    [
+        [Tone::T1, Tone::T1, Tone::T0, Tone::T0],
+        [Tone::T0, Tone::T0, Tone::T30, Tone::T0],
+    ],
 ];
 
 // The same with the second column times s.
-const LONGER: [(usize, Tone); 6] = [
-    (0, Tone::T1),
-    (WIDTH, Tone::T1),
-    (WIDTH + 1, Tone::T30),
-    (GENERATORS + 1, Tone::T1),
-    (GENERATORS + 2, Tone::T1),
-    (GENERATORS + WIDTH + 3, Tone::T30),
+const LONGER: Columns = [
+    [
+        [Tone::T1, Tone::T0, Tone::T0, Tone::T0],
+        [Tone::T1, Tone::T30, Tone::T0, Tone::T0],
+    ],
+    [
+        [Tone::T0, Tone::T1, Tone::T1, Tone::T0],
+        [Tone::T0, Tone::T0, Tone::T0, Tone::T30],
+    ],
 ];
 
 // Enters coefficients, then prints the generators.
@@ -47,7 +52,10 @@ fn enter(rt: &HostRuntime, station: Station, entries: &[Entry]) -> anyhow::Resul
         })?;
     }
     let Answered { station, .. } = station.run(rt, entries, requests)?;
-    show_generators(rt, 2, &station.generators)?;
+    let row = RowText {
+        row: &station.generators[..2 * WIDTH],
+    };
+    println!(rt; "The generators are now {row}.")?;
     Ok(station)
 }
 
@@ -57,7 +65,11 @@ fn frame(rt: &HostRuntime, station: Station) -> anyhow::Result<Station> {
     let requests = vec![in rt.alloc(); Request::Frame { work }]?;
     let Answered { station, .. } = station.run(rt, &["frame"], requests)?;
     if let Design::Framed(framed) = &station.design {
-        show_columns(rt, framed, &station.frame)?;
+        let columns = ColumnsText {
+            framed,
+            frame: &station.frame,
+        };
+        print!(rt; "{columns}")?;
         println!(rt;
             "No Bezout vector is shorter than column 0: one hit on the air spoils at most {} of a message's symbols.",
             spoiled(framed)
@@ -82,7 +94,7 @@ fn receive(rt: &HostRuntime, station: Station, block: &[Tone]) -> anyhow::Result
     };
     let invert = Request::Invert {
         block: Vec::from_slice(heap, block)?,
-        message: vec![in heap; Tone::T0; 2]?,
+        message: vec![in heap; Tone::T0; SENT.len()]?,
     };
     let requests = vec![in heap; check, invert]?;
     station.run(rt, &["check", "invert"], requests)
@@ -111,7 +123,7 @@ fn compare(rt: &HostRuntime, answered: &Answered) -> anyhow::Result<()> {
 // Sends the message 3 1, then hits a symbol of its block.
 fn send(rt: &HostRuntime, station: Station) -> anyhow::Result<Station> {
     println!(rt; "The message 3 1 is encoded, and its block checked and inverted:")?;
-    let mut encoded = encode(rt, station, 8)?;
+    let mut encoded = encode(rt, station, DESIGN_BLOCK)?;
     let Some(Answer::Encode { mut block, .. }) = encoded.answers.pop() else {
         return Err(anyhow!("encode was refused"));
     };
@@ -125,13 +137,20 @@ fn send(rt: &HostRuntime, station: Station) -> anyhow::Result<Station> {
     Ok(spoilt.station)
 }
 
-// An offered table, by the places of its coefficients.
-fn offered(heap: Global, columns: &[(usize, Tone)]) -> anyhow::Result<Request<Tone>> {
-    let mut offered = vec![in heap; Tone::T0; COLUMNS]?;
-    for (place, tone) in columns {
-        if let Some(x) = offered.get_mut(*place) {
-            *x = *tone;
+// Writes the components of a column, one behind the other.
+fn write_column(table: &mut [Tone], column: &[[Tone; 4]]) {
+    for (place, component) in table.chunks_mut(WIDTH).zip(column.iter()) {
+        if let Some(front) = place.get_mut(..component.len()) {
+            front.copy_from_slice(component);
         }
+    }
+}
+
+// An offered table.
+fn offered(heap: Global, columns: &Columns) -> anyhow::Result<Request<Tone>> {
+    let mut offered = vec![in heap; Tone::T0; COLUMNS]?;
+    for (table, column) in offered.chunks_mut(GENERATORS).zip(columns.iter()) {
+        write_column(table, column);
     }
     let work = vec![in heap; Tone::T0; WORK]?;
     Ok(Request::Offer { offered, work })
@@ -163,24 +182,28 @@ fn offer(rt: &HostRuntime, station: Station) -> anyhow::Result<()> {
 // A design whose generators have a common factor: the link turns it away.
 fn factor(rt: &HostRuntime) -> anyhow::Result<()> {
     println!(rt; "Another design is entered, whose generators have a common factor:")?;
-    let station = enter(rt, Station::begin(rt.alloc())?, &SHARED)?;
-    show_divisor(rt, &station.generators)?;
+    let station = enter(rt, Station::begin()?, &SHARED)?;
+    let divisor = DivisorText {
+        generators: &station.generators,
+    };
+    println!(rt; "{divisor}")?;
     let framed = frame(rt, station)?;
     println!(rt; "The message 3 1 is to be sent over it:")?;
-    encode(rt, framed, 6)?;
+    encode(rt, framed, SHARED_BLOCK)?;
     Ok(())
 }
 
 // The design (s^2, 1 + s): entered, with two slips, and kept on a card.
 fn first_design(rt: &HostRuntime) -> anyhow::Result<Station> {
     println!(rt; "A new design of 2 generators over the 31 tones is begun.")?;
-    let station = Station::begin(rt.alloc())?;
+    let station = Station::begin()?;
     println!(rt; "Its generators s^2 and 1 + s are entered by their codes:")?;
     let station = enter(rt, station, &DESIGN)?;
     println!(rt; "Two slips of the hand are refused, and change nothing:")?;
     let station = enter(rt, station, &SLIPS)?;
     if let Design::Draft(draft) = &station.design {
-        keep(rt, draft, &station.generators)?;
+        let kept = Kept::of(rt.alloc(), draft, &station.generators)?;
+        print!(rt; "{kept}")?;
     }
     Ok(station)
 }
@@ -192,5 +215,6 @@ pub fn walk(rt: &HostRuntime) -> anyhow::Result<()> {
     let station = send(rt, station)?;
     offer(rt, station)?;
     factor(rt)?;
-    show_products(rt)
+    print!(rt; "{ProductsText}")?;
+    Ok(())
 }

@@ -1,42 +1,86 @@
 // A design's card: written, read back, and read damaged.
+ghost use Rattle.std.specs.Prelude.{◌≡◌, IfOk};
+ghost use Rattle.std.specs.List.{slice_set};
+ghost use Rattle.cards.specs.RoundTrip.{ReadsBack};
+
 use anyhow::anyhow;
 use cards::read::read_card;
 use cards::sizes::CARD;
 use cards::write::write_card;
 use design::draft::Draft;
 use fields::fault::RefusalText;
-use tables::sizes::GENERATORS;
+use fields::field::Field;
+use std::alloc::Global;
+use std::fmt;
+use tables::sizes::{GENERATORS, WIDTH};
 use texts::card::CardText;
 use texts::polynomial::RowText;
 use tones::Tone;
 
-// Reads a card and prints what came of it.
-fn show_reading(rt: &HostRuntime, card: &[u8]) -> anyhow::Result<()> {
-    let mut table = [Tone::T0; GENERATORS];
-    match read_card(card, &mut table) {
-        Ok(draft) => {
-            let row = RowText {
-                n: draft.count(),
-                table: &table,
-            };
-            println!(rt; "  granted: the generators are ({row})")?;
-        }
-        Err(fault) => println!(rt; "  {}", RefusalText { fault: &fault })?,
-    }
-    Ok(())
+// What comes of reading a card.
+#[derive(Drop)]
+struct ReadingText<'a> {
+    card: &'a [u8],
 }
 
-// Writes the design's card, reads it back, and reads a damaged one.
-pub fn keep(rt: &HostRuntime, draft: &Draft, table: &[Tone]) -> anyhow::Result<()> {
-    let mut buffer = [0u8; CARD];
-    let Ok(length) = write_card(draft, table, &mut buffer) else {
-        return Err(anyhow!("the card was refused"));
-    };
-    println!(rt; "The design's card has {length} bytes:")?;
-    print!(rt; "{}", CardText { bytes: &buffer })?;
-    println!(rt; "The card is read back:")?;
-    show_reading(rt, buffer.get(..length).unwrap_or(&[]))?;
-    println!(rt; "Byte 13 is damaged, from 1 to 0, and the card is read again:")?;
-    buffer[13] = 0;
-    show_reading(rt, buffer.get(..length).unwrap_or(&[]))
+impl fmt::Display for ReadingText<'_> {
+    fn fmt<W: fmt::Write>(&self, f: &mut fmt::Formatter<W>) -> fmt::Result {
+        let mut table = [Tone::T0; GENERATORS];
+        match read_card(self.card, &mut table) {
+            Ok(draft) => {
+                let row = RowText {
+                    row: &table[..WIDTH * draft.count()],
+                };
+                writeln!(f, "  granted: the generators are {row}")
+            }
+            Err(fault) => writeln!(f, "  {}", RefusalText { fault: &fault }),
+        }
+    }
+}
+
+// A design's card, and the same with its byte 13 set to 0.
+#[derive(Drop)]
+pub struct Kept {
+    pub card: Vec<u8>,
+    pub damaged: Vec<u8>,
+}
+
+impl Kept {
+    // The card of a design.
+    pub fn of(heap: Global, draft: &Draft, table: &[Tone]) -> anyhow::Result<Kept>
+        ensures card { IfOk result (λ kept. ReadsBack ⟦<Tone as Field>⟧.ops ⟦<Tone as Field>⟧.member ⟦<Tone as Field>⟧.number ⟦<Tone as Field>⟧.order ⟦<Tone as Field>⟧.tag draft.now.n table.now kept.card.items) }
+        ensures damaged { IfOk result (λ kept. kept.damaged.items ≡ slice_set kept.card.items 13 0) }
+    {
+        let mut buffer = [0u8; CARD];
+        let Ok(length) = write_card(draft, table, &mut buffer) else {
+            return Err(anyhow!("the card was refused"));
+        };
+        let card = Vec::from_slice(heap, &buffer[..length])?;
+        let mut damaged = card.clone()?;
+        if let Some(byte) = damaged.get_mut(13) {
+            *byte = 0;
+        }
+        Ok(Kept { card, damaged })
+    }
+}
+
+impl fmt::Display for Kept {
+    fn fmt<W: fmt::Write>(&self, f: &mut fmt::Formatter<W>) -> fmt::Result {
+        let length = self.card.len();
+        writeln!(f, "The design's card has {length} bytes:")?;
+        write!(f, "{}", CardText { bytes: &self.card })?;
+        writeln!(f, "The card is read back:")?;
+        write!(f, "{}", ReadingText { card: &self.card })?;
+        writeln!(
+            f,
+            "Byte 13 is damaged, from 1 to 0, and the card is read again:"
+        )?;
+        write!(
+            f,
+            "{}",
+            ReadingText {
+                card: &self.damaged
+            }
+        )
+    }
 }

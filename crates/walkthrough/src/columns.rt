@@ -3,39 +3,30 @@ ghost use Rattle.std.specs.Prelude.{◌≡◌, ◌+◌, ◌%◌};
 
 use design::framed::Framed;
 use fields::field::Field;
-use texts::polynomial::PolynomialText;
+use std::fmt;
+use tables::sizes::{GENERATORS, WIDTH};
+use texts::polynomial::RowText;
 
-// Prints a column, component by component.
-fn show_column<F: Field>(
-    rt: &HostRuntime,
-    framed: &Framed,
-    frame: &[F],
-    j: usize,
-) -> anyhow::Result<()> {
-    let mut before = "(";
-    for i in 0..framed.generators() {
-        if let Ok(coefficients) = framed.column(frame, i, j) {
-            print!(rt; "{before}{}", PolynomialText { coefficients })?;
-            before = ", ";
-        }
-    }
-    print!(rt; ")")?;
-    Ok(())
+// The columns of a frame, each with its degree on a line.
+#[derive(Drop)]
+pub struct ColumnsText<'a, F: Field> {
+    pub framed: &'a Framed,
+    pub frame: &'a [F],
 }
 
-// Prints the columns and their degrees.
-pub fn show_columns<F: Field>(
-    rt: &HostRuntime,
-    framed: &Framed,
-    frame: &[F],
-) -> anyhow::Result<()> {
-    let degrees = framed.columns().to_le_bytes();
-    for (j, degree) in degrees.iter().take(framed.generators()).enumerate() {
-        print!(rt; "  column {j}, of degree {degree}: ")?;
-        show_column(rt, framed, frame, j)?;
-        println!(rt; "")?;
+impl<F: Field> fmt::Display for ColumnsText<'_, F> {
+    fn fmt<W: fmt::Write>(&self, f: &mut fmt::Formatter<W>) -> fmt::Result {
+        let n = self.framed.generators();
+        let degrees = self.framed.columns().to_le_bytes();
+        let columns = self.frame.chunks(GENERATORS).zip(degrees.iter());
+        for (j, (column, degree)) in columns.take(n).enumerate() {
+            let row = RowText {
+                row: column.get(..WIDTH * n).unwrap_or(column),
+            };
+            writeln!(f, "  column {j}, of degree {degree}: {row}")?;
+        }
+        Ok(())
     }
-    Ok(())
 }
 
 // How many symbols one hit can spoil: the degree of column 0, and one more.

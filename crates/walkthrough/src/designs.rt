@@ -1,8 +1,8 @@
 // The designs that are entered, by the codes of their nonzero coefficients.
-use anyhow::anyhow;
 use frames::row::{DIVISOR, ROW, divide_by_gcd};
 use history::request::Request;
-use tables::sizes::{GENERATORS, WORK};
+use std::fmt;
+use tables::sizes::{GENERATORS, WIDTH, WORK};
 use texts::polynomial::{PolynomialText, RowText};
 use tones::Tone;
 
@@ -44,6 +44,14 @@ pub const SHARED: [Request; 3] = [
     },
 ];
 
+// The message that is sent.
+pub const SENT: [Tone; 2] = [Tone::T3, Tone::T1];
+
+// How long its block is over DESIGN, and over SHARED: two streams, each as long as the message and the design's degree.
+pub const DESIGN_BLOCK: usize = 2 * (SENT.len() + 2);
+
+pub const SHARED_BLOCK: usize = 2 * (SENT.len() + 1);
+
 // Two slips of the hand.
 pub const SLIPS: [Request; 2] = [
     Request::Put {
@@ -58,30 +66,28 @@ pub const SLIPS: [Request; 2] = [
     },
 ];
 
-// Prints the n generators of a design.
-pub fn show_generators(rt: &HostRuntime, n: usize, table: &[Tone]) -> anyhow::Result<()> {
-    println!(rt; "The generators are now ({}).", RowText { n, table })?;
-    Ok(())
+// The divisor that two generators share, and their row divided by it.
+#[derive(Drop)]
+pub struct DivisorText<'a> {
+    pub generators: &'a [Tone; GENERATORS],
 }
 
-// Prints the divisor that two generators share, and the row divided by it.
-pub fn show_divisor(rt: &HostRuntime, generators: &[Tone]) -> anyhow::Result<()> {
-    let mut work = [Tone::T0; WORK];
-    if generators.len() != GENERATORS {
-        return Err(anyhow!("the table has not its length"));
-    }
-    match divide_by_gcd(2, generators, &mut work) {
-        Some(_) => {
-            let divisor = PolynomialText {
-                coefficients: &work[DIVISOR..ROW],
-            };
-            let row = RowText {
-                n: 2,
-                table: &work[ROW..],
-            };
-            println!(rt; "Its divisor is {divisor}, and divided by it the row is ({row}).")?;
+impl fmt::Display for DivisorText<'_> {
+    fn fmt<W: fmt::Write>(&self, f: &mut fmt::Formatter<W>) -> fmt::Result {
+        let generators = self.generators;
+        let mut work = [Tone::T0; WORK];
+        if divide_by_gcd(2, generators, &mut work).is_none() {
+            return write!(f, "Every generator is zero.");
         }
-        None => println!(rt; "Every generator is zero.")?,
+        let divisor = PolynomialText {
+            coefficients: &work[DIVISOR..ROW],
+        };
+        let row = RowText {
+            row: &work[ROW..ROW + 2 * WIDTH],
+        };
+        write!(
+            f,
+            "Its divisor is {divisor}, and divided by it the row is {row}."
+        )
     }
-    Ok(())
 }

@@ -1,28 +1,33 @@
 // A product in each field.
 use fields::field::Field;
 use nibbles::Nibble;
+use std::fmt;
 use tones::Tone;
 use towers::{Byte, TonePair, product_of_codes};
 
-// Prints the product of two members, by their codes.
-fn show_product<F: Field>(
-    rt: &HostRuntime,
+// Writes the product of two members, by their codes.
+fn write_product<F: Field, W: fmt::Write>(
+    f: &mut fmt::Formatter<W>,
     field: &str,
     left: u32,
     right: u32,
-) -> anyhow::Result<()> {
+) -> fmt::Result {
     match product_of_codes::<F>(left, right) {
-        Ok(product) => println!(rt; "  {field}: {left} times {right} is {product}")?,
-        Err(_) => println!(rt; "  {field}: no such members")?,
+        Ok(product) => writeln!(f, "  {field}: {left} times {right} is {product}"),
+        Err(_) => writeln!(f, "  {field}: no such members"),
     }
-    Ok(())
 }
 
-// The same interface has four implementations.
-pub fn show_products(rt: &HostRuntime) -> anyhow::Result<()> {
-    println!(rt; "A product in each field, by codes:")?;
-    show_product::<Tone>(rt, "tones", 5, 25)?;
-    show_product::<Nibble>(rt, "nibbles", 8, 2)?;
-    show_product::<Byte>(rt, "bytes", 16, 16)?;
-    show_product::<TonePair>(rt, "tone pairs", 31, 31)
+// A product in each field: the same interface has four implementations.
+#[derive(Clone, Copy)]
+pub struct ProductsText;
+
+impl fmt::Display for ProductsText {
+    fn fmt<W: fmt::Write>(&self, f: &mut fmt::Formatter<W>) -> fmt::Result {
+        writeln!(f, "A product in each field, by codes:")?;
+        write_product::<Tone, W>(f, "tones", 5, 25)?;
+        write_product::<Nibble, W>(f, "nibbles", 8, 2)?;
+        write_product::<Byte, W>(f, "bytes", 16, 16)?;
+        write_product::<TonePair, W>(f, "tone pairs", 31, 31)
+    }
 }

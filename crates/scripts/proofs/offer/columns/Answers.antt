@@ -1,7 +1,4 @@
-use Rattle.std.proofs.Common.{◌≡◌, ℕ, ◌<◌, Bool, true, false, Decides, rules, List, [], length, vec_items, codes, Vec, sym, refl, ap, ◌∙◌, subst, arith, true-eqb, false-eqb}
-use Rattle.std.proofs.lemmas.Bool.Decides.{Decides-eqb}
-use Rattle.std.proofs.lemmas.Slice.Eq.{bytes_eq-Decides, slice_eq-Decides}
-use Rattle.std.proofs.lemmas.Bool.Decides.{same_from_decides}
+use Rattle.std.proofs.Common.{◌≡◌, ℕ, ◌<◌, rules, List, [], length, vec_items, Vec, sym, refl, ap, ◌∙◌, subst, arith}
 use Rattle.std.specs.declared.alloc.Global.{Global}
 use Rattle.scripts.specs.Meaning.{Polynomial, Columns, bar}
 use Rattle.scripts.specs.Words.{words, words_left, pieces}
@@ -21,34 +18,31 @@ moved : {whole left : List (List ℕ)} {cs ds : List Column_vec} {ps qs : List C
 moved {whole = whole} {left = left} {cs = cs} {qs = qs} e f r =
     subst (λ (l : List Component_vec). Reading whole left cs l) (sym f) (subst (λ (l : List Column_vec). Reading whole left l qs) (sym e) r)
 
--- `==` of a word and a bar
-bar_decides : {w v : List ℕ} {r : Bool} → v ≡ codes "|" → Decides r (w ≡ v) → bar w ≡ r
-bar_decides {w = w} {r = r} e d = sym (same_from_decides r (bar w) (subst (λ (u : List ℕ). Decides r (w ≡ u)) e d) (bytes_eq-Decides w (codes "|")))
+is_none : (n : ℕ) → ((0 < n) → ⊥) → n ≡ 0
+is_none n never = omega arith
 
 pub loop-word-init : goal.loop-word-init
 loop-word-init c =
     let whole = words c.args.text.now in
     let start : words_left c.into_iter-word-iterator.result ≡ whole = search rules in
-    moved c.new-done.ensures.items c.new-column.ensures.items (rw start (reading_none whole))
+    moved c.new-read.ensures.items c.new-column.ensures.items (rw start (reading_none whole))
 
-pub returns-then-is_empty : goal.returns-then-is_empty
-returns-then-is_empty c =
+pub returns-in_err-close : goal.returns-in_err-close
+returns-in_err-close c =
+    let whole = words c.args.text.now in
     let w = c.in-Some.word.now in
     let rest = words_left c.next.new.self in
     let left = words_left c.loop-word.word-iterator in
-    let is_bar : bar w ≡ true = bar_decides c.as_slice.ensures (slice_eq-Decides {A = ℕ} Decides-eqb _ _ _ c.eq.ensures) ∙ c.if-eq.true in
-    let none : length (vec_items c.loop-word.column) ≡ 0 = omega (arith, true-eqb _ 0 c.if-is_empty.ensures, c.loop-word.column.ok.0) in
-    λ m. empty_refuted (words c.args.text.now) left _ _ c.loop-word.invariant (pieces bar rest) (pieces_bar left w rest c.in-Some.ensures.steps is_bar) none m.0 m.1
+    refused (λ v. Columns whole (vec_items v)) ((cs : List Column_vec) × Columns whole cs) c.from_residual.result _ (0 < length (vec_items c.loop-word.column)) c.from_residual.ensures.1 c.in_err-close.ensures
+    (λ never m. empty_refuted whole left _ _ c.loop-word.invariant (pieces bar rest) (pieces_bar left w rest c.in-Some.ensures.steps (sym c.is_bar.ensures ∙ c.if-is_bar.true)) (is_none _ never) m.0 m.1)
 
-pub loop-word-preserved-then-eq : goal.loop-word-preserved-then-eq
-loop-word-preserved-then-eq c =
+pub loop-word-preserved-then-is_bar : goal.loop-word-preserved-then-is_bar
+loop-word-preserved-then-is_bar c =
     let w = c.in-Some.word.now in
     let rest = words_left c.next.new.self in
     let left = words_left c.loop-word.word-iterator in
-    let is_bar : bar w ≡ true = bar_decides c.as_slice.ensures (slice_eq-Decides {A = ℕ} Decides-eqb _ _ _ c.eq.ensures) ∙ c.if-eq.true in
-    let some : 0 < length (vec_items c.loop-word.column) = omega (arith, false-eqb _ 0 c.if-is_empty.ensures, c.loop-word.column.ok.0) in
-    moved c.in_ok-push.ensures.items c.new-column-then-eq.ensures.items
-    (reading_next (words c.args.text.now) rest _ (reading_close (words c.args.text.now) left _ c.loop-word.column (pieces bar rest) c.loop-word.invariant (pieces_bar left w rest c.in-Some.ensures.steps is_bar) some))
+    moved c.in_ok-close.ensures.1 c.new-column-then-is_bar.ensures.items
+    (reading_next (words c.args.text.now) rest _ (reading_close (words c.args.text.now) left _ c.loop-word.column (pieces bar rest) c.loop-word.invariant (pieces_bar left w rest c.in-Some.ensures.steps (sym c.is_bar.ensures ∙ c.if-is_bar.true)) c.in_ok-close.ensures.0))
 
 pub returns-in_err-component : goal.returns-in_err-component
 returns-in_err-component c =
@@ -56,27 +50,25 @@ returns-in_err-component c =
     let w = c.in-Some.word.now in
     let rest = words_left c.next.new.self in
     let left = words_left c.loop-word.word-iterator in
-    let no_bar : bar w ≡ false = bar_decides c.as_slice.ensures (slice_eq-Decides {A = ℕ} Decides-eqb _ _ _ c.eq.ensures) ∙ c.if-eq.false in
     refused (λ v. Columns whole (vec_items v)) ((cs : List Column_vec) × Columns whole cs) c.from_residual-in_err-component.result _ ((ns : List ℕ) × Polynomial w ns) c.from_residual-in_err-component.ensures.1 c.in_err-component.ensures
-    (λ never m. word_refuted whole left _ _ c.loop-word.invariant w rest c.in-Some.ensures.steps no_bar (λ ns h. never (ns, h)) m.0 m.1)
+    (λ never m. word_refuted whole left _ _ c.loop-word.invariant w rest c.in-Some.ensures.steps (sym c.is_bar.ensures ∙ c.if-is_bar.false) (λ ns h. never (ns, h)) m.0 m.1)
 
 pub loop-word-preserved : goal.loop-word-preserved
 loop-word-preserved c =
     let w = c.in-Some.word.now in
     let rest = words_left c.next.new.self in
     let left = words_left c.loop-word.word-iterator in
-    let no_bar : bar w ≡ false = bar_decides c.as_slice.ensures (slice_eq-Decides {A = ℕ} Decides-eqb _ _ _ c.eq.ensures) ∙ c.if-eq.false in
-    moved refl c.in_ok-push-2.ensures.items
-    (reading_word (words c.args.text.now) left _ _ w rest c.in_ok-component.component c.loop-word.invariant c.in-Some.ensures.steps no_bar c.in_ok-component.ensures)
+    moved refl c.in_ok-push.ensures.items
+    (reading_word (words c.args.text.now) left _ _ w rest c.in_ok-component.component c.loop-word.invariant c.in-Some.ensures.steps (sym c.is_bar.ensures ∙ c.if-is_bar.false) c.in_ok-component.ensures)
 
-pub returns-then-is_empty-2 : goal.returns-then-is_empty-2
-returns-then-is_empty-2 c =
-    let none : length (vec_items c.loop-word.column) ≡ 0 = omega (arith, true-eqb _ 0 c.if-is_empty-2.ensures, c.loop-word.column.ok.0) in
-    λ m. empty_refuted (words c.args.text.now) (words_left c.loop-word.word-iterator) _ _ c.loop-word.invariant [] (ap (pieces bar) c.in-None.ensures.steps.0) none m.0 m.1
+pub returns-in_err-close-2 : goal.returns-in_err-close-2
+returns-in_err-close-2 c =
+    let whole = words c.args.text.now in
+    refused (λ v. Columns whole (vec_items v)) ((cs : List Column_vec) × Columns whole cs) c.from_residual-in_err-close-2.result _ (0 < length (vec_items c.loop-word.column)) c.from_residual-in_err-close-2.ensures.1 c.in_err-close-2.ensures
+    (λ never m. empty_refuted whole (words_left c.loop-word.word-iterator) _ _ c.loop-word.invariant [] (ap (pieces bar) c.in-None.ensures.steps.0) (is_none _ never) m.0 m.1)
 
 pub returns : goal.returns
 returns c =
-    let some : 0 < length (vec_items c.loop-word.column) = omega (arith, false-eqb _ 0 c.if-is_empty-2.ensures, c.loop-word.column.ok.0) in
     let whole = words c.args.text.now in
-    subst (λ (l : List Column_vec). Columns whole l) (sym c.in_ok-push-3.ensures.items)
-    (sofar_all Column (pieces bar whole) [] _ (reading_close whole (words_left c.loop-word.word-iterator) _ c.loop-word.column [] c.loop-word.invariant (ap (pieces bar) c.in-None.ensures.steps.0) some) refl)
+    subst (λ (l : List Column_vec). Columns whole l) (sym c.in_ok-close-2.ensures.1)
+    (sofar_all Column (pieces bar whole) [] _ (reading_close whole (words_left c.loop-word.word-iterator) _ c.loop-word.column [] c.loop-word.invariant (ap (pieces bar) c.in-None.ensures.steps.0) c.in_ok-close-2.ensures.0) refl)

@@ -4,4 +4,4 @@ use Rattle.scripts.proofs.Bars.{Reading}
 use Rattle.scripts.proofs.offer.columns.Given as goal
 
 abbrev pub invariant-loop-word : goal.invariant-loop-word
-invariant-loop-word l = Reading (words l.text) (words_left l.word-iterator) (vec_items l.done) (vec_items l.column)
+invariant-loop-word l = Reading (words l.text) (words_left l.word-iterator) (vec_items l.read) (vec_items l.column)
