@@ -11,7 +11,8 @@ use tones::Tone;
 use trial_support::rows::Row;
 use trial_support::sizes::{CARD, FRAME, POWERS, ROW};
 
-// A nonzero coefficient of a row: its polynomial, power and code.
+// A nonzero coefficient of a row: its polynomial, power and code. A term of the tests is given to a call, which takes any number as a
+// code; this one is a code.
 #[derive(Clone, Copy)]
 pub struct Term(pub usize, pub usize, pub u16);
 
