@@ -119,7 +119,7 @@ impl<F: Field + Drop> Sending<'_, F> {
         changes: u32,
         mut next: C,
     ) -> Tally
-        requires { C.IsAlwaysCallable next }
+        requires { (f : C) (x : _) → C.pre f x }
     {
         let right = code_at(self.block.as_slice(), place);
         let tally = Tally::of(changes, |step| {

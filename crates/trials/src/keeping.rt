@@ -77,7 +77,7 @@ fn damage_byte<F: Field, V: FnMut(u32) -> u32>(
     values: u32,
     mut next: V,
 ) -> Tally
-    requires { V.IsAlwaysCallable next }
+    requires { (f : V) (x : _) → V.pre f x }
 {
     let Some(right) = card.get(place).copied() else {
         return Tally::default();
