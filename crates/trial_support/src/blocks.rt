@@ -26,7 +26,8 @@ fn symbol<F: Field>(row: &Row, message: &[F], place: usize) -> u16 {
     sum
 }
 
-// Whether a block is the block of a message.
+// Whether a block is the block of a message. The clause says little: what it would say is the sum of products of coefficients, and
+// that is this program.
 pub fn is_block<F: Field>(row: &Row, message: &[F], block: &[F]) -> bool
     ensures { block.now ≡ [] → IsTrue result }
 {
@@ -80,7 +81,7 @@ pub fn degree_of<F: Field>(n: usize, column: &[F]) -> Option<usize>
         .max()
 }
 
-// The product of a row and a column.
+// The product of a row and a column. The clause says little, as that of `is_block`.
 pub fn product_with<F: Field>(row: &Row, column: &[F]) -> [u16; LENGTH]
     ensures { column.now ≡ [] → result ≡ replicate LENGTH 0 }
 {

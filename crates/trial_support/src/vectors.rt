@@ -9,7 +9,8 @@ const WIDTH: usize = GENERATORS + 1;
 // The places: 17 powers of the vector, and above them 17 of the product.
 pub const PLACES: usize = 2 * POWERS * WIDTH;
 
-// Power k of component i stands at 9 k + i. The product is raised by 17 powers, so that it leads while it is not zero.
+// Power k of component i stands at 9 k + i. The product is raised by 17 powers, so that it leads while it is not zero. One flat list,
+// since the order of the places is what reduces: the highest leads, and a multiple by a power of s is the list moved up.
 #[derive(Clone, Copy)]
 pub struct Vector {
     cells: [u16; PLACES],

@@ -7,7 +7,7 @@ pub struct Tally {
 
 impl Tally {
     // Counts so many trials, each by its number; one that tells nothing is not counted.
-    pub fn of<T: FnMut(u32) -> Option<bool>>(trials: u32, mut agrees: T) -> Tally
+    pub(crate) fn of<T: FnMut(u32) -> Option<bool>>(trials: u32, mut agrees: T) -> Tally
         requires { (state : T) (trial : _) → T.pre state trial }
     {
         let mut tally = Tally::default();
