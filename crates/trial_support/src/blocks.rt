@@ -1,7 +1,7 @@
 // Blocks and products by their definition: sums of products of coefficients.
 ghost use Rattle.std.specs.Prelude.{◌≡◌, ◌≤◌, ◌<◌, ◌*◌, ◌↔◌, [], length, replicate, take, drop, slice_get, IsTrue, IfSome};
 ghost use Rattle.std.specs.Option.{option_map_or};
-ghost use Rattle.trial_support.specs.Blocks.{SameOutside};
+ghost use Rattle.trial_support.specs.Blocks.{differing, SameOutside};
 
 use crate::codes::{add_product, member_of, sum_product, top_of};
 use crate::rows::Row;
@@ -96,6 +96,7 @@ pub fn product_with<F: Field>(row: &Row, column: &[F]) -> [u16; LENGTH]
 pub fn differences<F: Field>(left: &[F], right: &[F]) -> usize
     ensures left { result ≤ length left.now }
     ensures right { result ≤ length right.now }
+    ensures count { result ≡ differing (λ x. F.number (F.member x)) left.now right.now }
 {
     left.iter()
         .zip(right)

@@ -179,8 +179,8 @@ pub fn try_card_bytes(tables: &mut Tables<Tone>) -> Tally {
         let written = write_card(&draft, generators, &mut buffer);
         tally.note(matches!(written, Ok(17)));
     }
-    tally.note(buffer.get(..17) == Some(&bytes));
-    tally.note(buffer.iter().skip(17).all(|byte| *byte == 0));
+    tally.note(buffer.get(..bytes.len()) == Some(&bytes));
+    tally.note(buffer.iter().skip(bytes.len()).all(|byte| *byte == 0));
     tally.note(reading_agrees(&bytes, generators));
     tally
 }
