@@ -1,22 +1,21 @@
-// Frames of 8 random generators of degree 16, and blocks of 4,096 symbols.
+// Frames of 8 random generators of degree 16, and blocks of the longest message.
 use bench_support::bench::Bench;
 use design::draft::Draft;
 use design::framed::Framed;
 use fields::field::Field;
-use link::calls::{check, encode, invert};
+use link::calls::{SYMBOLS, check, encode, invert};
 use random::Random;
-use std::alloc::{AllocError, Global};
+use std::alloc::Global;
 use std::{fmt, io};
-use tables::sizes::{FRAME, GENERATORS, WORK};
+use tables::sizes::{MAX_COUNT, WIDTH};
+use test_support::designs::Tables;
 
 const FRAMES: u32 = 1000;
 
 const BLOCKS: u32 = 20;
 
-// The symbols of a message, and of each stream of its block.
-const MESSAGE: usize = 4096;
-
-const STREAM: usize = 4112;
+// The symbols of a stream under a design of degree 16.
+const STREAM: usize = SYMBOLS + WIDTH - 1;
 
 // A framed design, in words.
 #[derive(Drop)]
@@ -30,45 +29,27 @@ impl fmt::Display for FramedText {
     }
 }
 
-// The tables that a design lends.
-#[derive(Drop)]
-struct Tables<F: Field> {
-    generators: Vec<F>,
-    frame: Vec<F>,
-    work: Vec<F>,
+// A draft of n generators whose codes look random, of degree 16.
+fn draw<F: Field>(tables: &mut Tables<F>, n: usize) -> Option<Draft> {
+    let draft = Draft::begin(n, &mut tables.generators).ok()?;
+    Random::seeded(1).fill(&mut tables.generators);
+    Some(draft)
 }
 
-impl<F: Field + Clone> Tables<F> {
-    fn zeros(heap: Global) -> Result<Tables<F>, AllocError> {
-        Ok(Tables {
-            generators: vec![in heap; F::zero(); GENERATORS]?,
-            frame: vec![in heap; F::zero(); FRAME]?,
-            work: vec![in heap; F::zero(); WORK]?,
-        })
-    }
+fn frame<F: Field>(tables: &mut Tables<F>, draft: Draft) -> Option<Framed> {
+    draft
+        .frame(&tables.generators, &mut tables.frame, &mut tables.work)
+        .ok()
+}
 
-    // A draft of n generators whose codes look random, of degree 16.
-    fn draft(&mut self, n: usize) -> Option<Draft> {
-        let draft = Draft::begin(n, &mut self.generators).ok()?;
-        Random::seeded(1).fill(&mut self.generators);
-        Some(draft)
+// Frames a draft of 8 generators and reopens it, again and again.
+fn frame_again<F: Field>(tables: &mut Tables<F>) -> Option<FramedText> {
+    let mut draft = draw(tables, MAX_COUNT)?;
+    for _ in 0..FRAMES {
+        let framed = frame(tables, draft)?;
+        draft = framed.reopen(&mut tables.frame).ok()?;
     }
-
-    fn frame(&mut self, draft: Draft) -> Option<Framed> {
-        draft
-            .frame(&self.generators, &mut self.frame, &mut self.work)
-            .ok()
-    }
-
-    // Frames a draft of 8 generators and reopens it, again and again.
-    fn frame_again(&mut self) -> Option<FramedText> {
-        let mut draft = self.draft(8)?;
-        for _ in 0..FRAMES {
-            let framed = self.frame(draft)?;
-            draft = framed.reopen(&mut self.frame).ok()?;
-        }
-        self.frame(draft).map(FramedText)
-    }
+    frame(tables, draft).map(FramedText)
 }
 
 // Whether a call answers yes every time.
@@ -118,8 +99,8 @@ fn run_link<F: Field + Clone>(
 ) -> anyhow::Result<()> {
     bench.heading(format_args!("blocks of {n} streams"))?;
     let mut block = vec![in heap; F::zero(); n.saturating_mul(STREAM)]?;
-    if let Some(draft) = tables.draft(n) {
-        if let Some(framed) = tables.frame(draft) {
+    if let Some(draft) = draw(tables, n) {
+        if let Some(framed) = frame(tables, draft) {
             run_blocks(bench, &framed, tables, message, &mut block)?;
         }
     }
@@ -132,9 +113,9 @@ pub(crate) fn run_designs<F: Field + Clone>(
     heap: Global,
     name: &str,
 ) -> anyhow::Result<()> {
-    let mut tables = Tables::<F>::zeros(heap)?;
-    let mut message = vec![in heap; F::zero(); MESSAGE]?;
-    bench.measure(name, || tables.frame_again())?;
+    let mut tables = Tables::full_of(heap, F::zero())?;
+    let mut message = vec![in heap; F::zero(); SYMBOLS]?;
+    bench.measure(name, || frame_again(&mut tables))?;
     run_link(bench, heap, 2, &mut tables, &mut message)?;
-    run_link(bench, heap, 8, &mut tables, &mut message)
+    run_link(bench, heap, MAX_COUNT, &mut tables, &mut message)
 }

@@ -6,7 +6,7 @@ use fields::field::Field;
 use frames::row::{Degrees, divide_by_gcd};
 use random::Random;
 use std::{fmt, io};
-use tables::sizes::{GENERATORS, WORK};
+use tables::sizes::{GENERATORS, MAX_COUNT, WORK};
 use tones::Tone;
 use towers::Byte;
 
@@ -28,11 +28,11 @@ impl fmt::Display for DegreesText {
 
 // Divides the row by its divisor, again and again.
 fn divide<F: Field>(generators: &[F], work: &mut [F]) -> Option<DegreesText>
-    requires { (length generators.now ≡ 136) × (length work.old ≡ 4521) }
+    requires { (length generators.now ≡ GENERATORS) × (length work.old ≡ WORK) }
 {
     let mut degrees = None;
     for _ in 0..RUNS {
-        degrees = divide_by_gcd(8, generators, work);
+        degrees = divide_by_gcd(MAX_COUNT, generators, work);
     }
     degrees.map(DegreesText)
 }
@@ -44,7 +44,7 @@ fn run<F: Field>(
     generators: &mut [F],
     work: &mut [F],
 ) -> io::Result<()>
-    requires { (length generators.old ≡ 136) × (length work.old ≡ 4521) }
+    requires { (length generators.old ≡ GENERATORS) × (length work.old ≡ WORK) }
 {
     Random::seeded(1).fill(generators);
     bench.measure(name, || divide(generators, work))

@@ -4,17 +4,19 @@
 #[cfg(test)]
 mod tests {
     use cards::read::read_card;
+    use cards::sizes::CARD;
     use cards::write::write_card;
     use design::draft::Draft;
     use design::fault::DesignFault;
     use fields::fault::Refusal;
     use fields::field::Field;
     use std::test::Fail;
+    use tables::sizes::{GENERATORS, MAX_COUNT, WIDTH};
     use tones::Tone;
 
     // Number, layer and place of the refusal, which docs/refusals.md promises, if there is one.
     fn refusal(card: &[u8]) -> Option<(u8, u8, usize)> {
-        let fault = read_card(card, &mut [Tone::T7; 136]).err()?;
+        let fault = read_card(card, &mut [Tone::T7; GENERATORS]).err()?;
         Some((fault.number(), fault.layer().number(), fault.place()))
     }
 
@@ -57,7 +59,7 @@ mod tests {
 
     #[test]
     fn tables_hold_what_they_should(rt: HostRuntime) {
-        let mut table = [Tone::T7; 136];
+        let mut table = [Tone::T7; GENERATORS];
         assert!(rt; read_card(&[1, 2, 1, 1, 0, 3, 31, 0, 0], &mut table).is_err());
         assert_eq!(rt; table[3].code(), 7);
         assert!(rt; read_card(&[1, 2, 1, 1, 1, 3, 5, 0, 0], &mut table).is_ok());
@@ -80,15 +82,17 @@ mod tests {
 
     // Puts the code 30 at each power of each generator.
     fn fill(draft: &Draft, table: &mut [Tone]) -> Result<(), DesignFault> {
-        (0..8).try_for_each(|i| (0..17).try_for_each(|power| draft.put(table, i, power, 30)))
+        (0..MAX_COUNT).try_for_each(|i| (0..WIDTH).try_for_each(|power| draft.put(
+            table, i, power, 30,
+        )))
     }
 
     #[test]
     fn the_longest_card(rt: HostRuntime) -> Result<(), Fail> {
-        let mut table = [Tone::T0; 136];
-        let mut back = [Tone::T0; 136];
-        let mut card = [0u8; 555];
-        let draft = Draft::begin(8, &mut table)?;
+        let mut table = [Tone::T0; GENERATORS];
+        let mut back = [Tone::T0; GENERATORS];
+        let mut card = [0u8; CARD];
+        let draft = Draft::begin(MAX_COUNT, &mut table)?;
         fill(&draft, &mut table)?;
         assert_eq!(rt; write_card(&draft, &table, &mut card)?, 555);
         assert!(rt; read_card(&card, &mut back).is_ok());

@@ -3,11 +3,13 @@
 
 #[cfg(test)]
 mod tests {
+    use cards::sizes::CARD;
     use cards::write::write_card;
     use design::draft::Draft;
     use design::fault::DesignFault;
     use fields::fault::Refusal;
     use std::test::Fail;
+    use tables::sizes::GENERATORS;
     use tones::Tone;
 
     // The number of the refusal, which docs/refusals.md promises, if there is one.
@@ -17,7 +19,7 @@ mod tests {
 
     #[test]
     fn begin_takes_two_to_eight_generators(rt: HostRuntime) {
-        let mut table = [Tone::T5; 136];
+        let mut table = [Tone::T5; GENERATORS];
         assert_eq!(rt; refusal(Draft::begin(1, &mut table)), Some(2));
         assert_eq!(rt; refusal(Draft::begin(9, &mut table)), Some(2));
         assert_eq!(rt; refusal(Draft::begin(2, &mut table)), None);
@@ -26,7 +28,7 @@ mod tests {
 
     #[test]
     fn put_keeps_its_limits(rt: HostRuntime) -> Result<(), Fail> {
-        let mut table = [Tone::T0; 136];
+        let mut table = [Tone::T0; GENERATORS];
         let draft = Draft::begin(8, &mut table)?;
         assert_eq!(rt; refusal(draft.put(&mut table, 7, 16, 30)), None);
         assert_eq!(rt; refusal(draft.put(&mut table, 8, 16, 30)), Some(3));
@@ -37,9 +39,10 @@ mod tests {
 
     #[test]
     fn tables_have_their_exact_length(rt: HostRuntime) -> Result<(), Fail> {
+        // The numbers that are promised, one less and one more.
         let mut short = [Tone::T0; 135];
         let mut long = [Tone::T0; 137];
-        let mut table = [Tone::T0; 136];
+        let mut table = [Tone::T0; GENERATORS];
         let mut small = [0u8; 554];
         let mut large = [0u8; 556];
         assert_eq!(rt; refusal(Draft::begin(2, &mut short)), Some(1));
@@ -48,7 +51,7 @@ mod tests {
         assert_eq!(rt; refusal(draft.put(&mut short, 0, 0, 1)), Some(1));
         assert_eq!(rt; refusal(draft.put(&mut long, 0, 0, 1)), Some(1));
         assert_eq!(rt;
-            refusal(write_card(&draft, &short, &mut [0u8; 555])),
+            refusal(write_card(&draft, &short, &mut [0u8; CARD])),
             Some(1)
         );
         assert_eq!(rt; refusal(write_card(&draft, &table, &mut small)), Some(1));
@@ -58,8 +61,8 @@ mod tests {
 
     #[test]
     fn a_card_byte_by_byte(rt: HostRuntime) -> Result<(), Fail> {
-        let mut table = [Tone::T0; 136];
-        let mut card = [255u8; 555];
+        let mut table = [Tone::T0; GENERATORS];
+        let mut card = [255u8; CARD];
         let draft = Draft::begin(2, &mut table)?;
         draft.put(&mut table, 0, 2, 1)?;
         draft.put(&mut table, 1, 0, 1)?;

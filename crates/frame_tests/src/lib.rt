@@ -9,7 +9,7 @@ mod tests {
     use fields::field::Field;
     use std::process::Abort;
     use std::test::Fail;
-    use tables::sizes::GENERATORS;
+    use tables::sizes::{GENERATORS, MAX_COUNT};
     use test_support::designs::{Design, Tables, Term};
     use test_support::elements::{Cell, code_at, holds, sum_of_codes};
     use tones::Tone;
@@ -157,7 +157,7 @@ mod tests {
         frames_to::<Tone>(
             &rt,
             Design {
-                n: 8,
+                n: MAX_COUNT,
                 terms: &[Term(0, 16, 1), Term(7, 0, 1)],
             },
             &expected,

@@ -5,7 +5,7 @@ use frames::row::{DIVISOR, Degrees, ROW, divide_by_gcd};
 use random::Random;
 use std::alloc::{AllocError, Global};
 use std::process::Abort;
-use tables::sizes::{GENERATORS, WIDTH, WORK};
+use tables::sizes::{GENERATORS, MAX_COUNT, WIDTH, WORK};
 
 // A polynomial of at most that degree, with codes that look random.
 pub fn polynomial<F: Field>(degree: usize, seed: u32) -> Polynomial {
@@ -56,7 +56,7 @@ impl<F: Field> Row<F> {
     // The call, for tables of the right lengths.
     pub fn divide(&mut self) -> Option<Degrees> {
         let n = self.n;
-        if n <= 8 && self.generators.len() == GENERATORS && self.work.len() == WORK {
+        if n <= MAX_COUNT && self.generators.len() == GENERATORS && self.work.len() == WORK {
             divide_by_gcd(n, &self.generators, &mut self.work)
         } else {
             None

@@ -4,7 +4,7 @@ use fields::field::Field;
 use nibbles::Nibble;
 use std::process::Abort;
 use std::test::Fail;
-use tables::sizes::WIDTH;
+use tables::sizes::{MAX_COUNT, WIDTH};
 use tones::Tone;
 use towers::{Byte, TonePair};
 
@@ -15,9 +15,9 @@ fn fill<F: Field>(n: usize, e: usize, seed: u32, generators: &mut [F]) {
         *leading = 1;
     }
     let mut next = seed;
-    for (i, generator) in generators.chunks_mut(WIDTH).take(8).enumerate() {
+    for (i, generator) in generators.chunks_mut(WIDTH).take(MAX_COUNT).enumerate() {
         let other = if i < n && (n == 2 || i != 1) {
-            polynomial::<F>(16usize.saturating_sub(e), next)
+            polynomial::<F>((WIDTH - 1).saturating_sub(e), next)
         } else {
             [0; WIDTH]
         };
@@ -42,11 +42,11 @@ fn quadratic_trials<F: Field>(rt: &impl Abort, row: &Row<F>) {
     }
 }
 
-// From 2 to 8 generators, with factors of degree 0 to 16; then a row of zeros. Monic polynomials of degree 2 are tried on the first so many rows.
+// From 2 to 8 generators, with factors of degree 0 to 16; then a row of zeros. Monic polynomials of degree 2 are tried on the first so
+// many rows.
 fn rows<F: Field + Clone>(rt: &(impl Abort + AllocGlobal), quadratics: usize) -> Result<(), Fail> {
-    let mut row = Row::zeros(rt.alloc(), 8, F::one())?;
-    for e in 0..17usize {
-        let seed = 1 + e as u32;
+    let mut row = Row::zeros(rt.alloc(), MAX_COUNT, F::one())?;
+    for (e, seed) in (0..WIDTH).zip(1u32..) {
         row.n = 2 + e % 7;
         fill(row.n, e, seed, &mut row.generators);
         let degrees = row.divide().ok_or("every generator is zero")?;
@@ -57,7 +57,7 @@ fn rows<F: Field + Clone>(rt: &(impl Abort + AllocGlobal), quadratics: usize) ->
             quadratic_trials(rt, &row);
         }
     }
-    row.n = 8;
+    row.n = MAX_COUNT;
     tables::clear(&mut row.generators);
     assert!(rt; row.divide().is_none());
     assert_eq!(rt; top(row.divisor()), None);

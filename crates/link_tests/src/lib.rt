@@ -15,6 +15,7 @@ mod tests {
     use test_support::designs::{Design, Tables, Term};
     use tones::Tone;
     use towers::{Byte, TonePair};
+    use trial_support::blocks::differences;
 
     // The generators (s^2, s + 1).
     const APART: Design<'static> = Design {
@@ -130,11 +131,7 @@ mod tests {
     impl<F: Field + Clone> Transit<F> {
         // How many of the symbols that came home are not those of the message.
         fn spoiled(&self) -> usize {
-            self.message
-                .iter()
-                .zip(self.back.iter())
-                .filter(|(x, y)| x.code() != y.code())
-                .count()
+            differences(&self.message, &self.back)
         }
 
         // The block with the symbol at a place raised by one is unclean, and its message differs in at most two symbols.

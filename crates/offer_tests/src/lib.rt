@@ -10,13 +10,14 @@ mod tests {
     use nibbles::Nibble;
     use std::process::Abort;
     use std::test::Fail;
-    use tables::sizes::{COLUMNS, GENERATORS, WIDTH};
+    use tables::sizes::{COLUMNS, GENERATORS, MAX_COUNT, WIDTH};
     use test_support::designs::{Design, Tables, Term};
     use test_support::elements::{Cell, code_at, holds, sum_of_codes, write};
     use tones::Tone;
     use towers::{Byte, TonePair};
 
-    // A granted offer has these packed column degrees and a divisor that is this power of s; a refusal has this number and place, which docs/refusals.md promises.
+    // A granted offer has these packed column degrees and a divisor that is this power of s; a refusal has this number and place, which
+    // docs/refusals.md promises.
     type Answer = Result<(u64, usize), (u8, usize)>;
 
     // Zeros in rows and columns 0 to n - 1 of an offered table.
@@ -236,7 +237,7 @@ mod tests {
     fn offers_at_the_limits(rt: HostRuntime) -> Result<(), Fail> {
         // (s^16, 0, 0, 0, 0, 0, 0, 1): the last check column is (30, 0, .., 0, s^16)
         let design = Design {
-            n: 8,
+            n: MAX_COUNT,
             terms: &[Term(0, 16, 1), Term(7, 0, 1)],
         };
         let own = [

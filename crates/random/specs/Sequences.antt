@@ -1,4 +1,5 @@
--- The sequence of numbers, and what is drawn of it: the sequence itself is the promise, so that every run draws the same. The clauses of `Random` cite it; it assumes nothing.
+-- A congruential sequence is its recurrence, so the recurrence is the promise: every run, of any program, draws these numbers. The clauses
+-- of `Random` cite it; it assumes nothing.
 use Rattle.std.specs.Prelude.{ℕ, zero, suc, List, [], ◌∷◌, ◌++◌, ◌+◌, ◌*◌, ◌/◌, ◌%◌}
 
 -- the state after a state

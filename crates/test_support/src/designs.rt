@@ -42,7 +42,7 @@ pub struct Tables<F: Field> {
 impl<F: Field + Clone> Tables<F> {
     // No generators yet, and one element everywhere else.
     pub fn full_of(heap: Global, x: F) -> Result<Tables<F>, AllocError>
-        ensures { IfOk result (λ t. (vec_len t.generators ≡ 136) × (vec_len t.frame ≡ 1105) × (vec_len t.work ≡ 4521)) }
+        ensures { IfOk result (λ t. (vec_len t.generators ≡ GENERATORS) × (vec_len t.frame ≡ FRAME) × (vec_len t.work ≡ WORK)) }
     {
         Ok(Tables {
             generators: vec![in heap; F::zero(); GENERATORS]?,
@@ -53,14 +53,14 @@ impl<F: Field + Clone> Tables<F> {
 
     // The columns of the frame.
     pub fn columns(&self) -> &[F]
-        ensures { 1088 ≤ vec_len self.now.frame → result.now ≡ take 1088 self.now.frame.items }
+        ensures { COLUMNS ≤ vec_len self.now.frame → result.now ≡ take COLUMNS self.now.frame.items }
     {
         self.frame.get(..COLUMNS).unwrap_or(&[])
     }
 
     // The divisor behind them.
     pub fn divisor(&self) -> &[F]
-        ensures { 1088 ≤ vec_len self.now.frame → result.now ≡ drop 1088 self.now.frame.items }
+        ensures { COLUMNS ≤ vec_len self.now.frame → result.now ≡ drop COLUMNS self.now.frame.items }
     {
         self.frame.get(COLUMNS..).unwrap_or(&[])
     }

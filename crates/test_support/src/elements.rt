@@ -1,6 +1,6 @@
 // Codes at places of tables.
-ghost use Rattle.std.specs.Prelude.{◌≡◌, ◌≤◌, ◌<◌, IfOk, IsTrue, All, Some, length, slice_get, min, sum_by};
-ghost use Rattle.std.specs.Option.{option_map};
+ghost use Rattle.std.specs.Prelude.{◌≡◌, ◌≤◌, ◌<◌, IfOk, IsTrue, All, Some, length, min, sum_by};
+ghost use Rattle.test_support.specs.Codes.{code_in};
 
 use fields::fault::FieldFault;
 use fields::field::Field;
@@ -10,7 +10,7 @@ pub type Cell = (usize, u16);
 
 // The code at a place of a table, absent past its end.
 pub fn code_at<F: Field>(table: &[F], place: usize) -> Option<u16>
-    ensures { result ≡ option_map (λ x. F.number (F.member x)) (slice_get table.now place) }
+    ensures { result ≡ code_in F.number F.member table.now place }
 {
     table.get(place).map(|x| x.code())
 }
@@ -26,7 +26,7 @@ pub fn sum_of_codes<F: Field>(table: &[F]) -> u64
 
 // Whether a table has the codes at their places, and zero elsewhere.
 pub fn holds<F: Field>(table: &[F], cells: &[Cell]) -> bool
-    ensures { IsTrue result → All (λ c. option_map (λ x. F.number (F.member x)) (slice_get table.now c.0) ≡ Some c.1) cells.now }
+    ensures { IsTrue result → All (λ c. code_in F.number F.member table.now c.0 ≡ Some c.1) cells.now }
 {
     let sum = cells.iter().fold(
         0,

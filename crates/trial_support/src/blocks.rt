@@ -1,13 +1,18 @@
 // Blocks and products by their definition: sums of products of coefficients.
-ghost use Rattle.std.specs.Prelude.{◌≡◌, ◌≤◌, ◌<◌, ◌*◌, [], length, replicate, take, drop, IsTrue, IfSome};
+ghost use Rattle.std.specs.Prelude.{◌≡◌, ◌≤◌, ◌<◌, ◌*◌, ◌↔◌, [], length, replicate, take, drop, slice_get, IsTrue, IfSome};
+ghost use Rattle.std.specs.Option.{option_map_or};
+ghost use Rattle.trial_support.specs.Blocks.{differing, SameOutside};
 
 use crate::codes::{add_product, member_of, sum_product, top_of};
 use crate::rows::Row;
 use crate::sizes::{LENGTH, POWERS, ROW};
 use fields::field::Field;
 
-// The code of the symbol at a place, 0 past the end: there a message goes on with zeros.
-pub fn code_at<F: Field>(symbols: &[F], place: usize) -> u16 {
+// The code of the symbol at a place, 0 past the end: there a message goes on with zeros. The tests' function of the same name reads
+// tables, which have no places past their end.
+pub fn code_at<F: Field>(symbols: &[F], place: usize) -> u16
+    ensures { result ≡ option_map_or (λ x. F.number (F.member x)) (slice_get symbols.now place) 0 }
+{
     symbols.get(place).map_or(0, |x| x.code())
 }
 
@@ -21,7 +26,8 @@ fn symbol<F: Field>(row: &Row, message: &[F], place: usize) -> u16 {
     sum
 }
 
-// Whether a block is the block of a message.
+// Whether a block is the block of a message. The clause says little: what it would say is the sum of products of coefficients, and
+// that is this program.
 pub fn is_block<F: Field>(row: &Row, message: &[F], block: &[F]) -> bool
     ensures { block.now ≡ [] → IsTrue result }
 {
@@ -75,7 +81,7 @@ pub fn degree_of<F: Field>(n: usize, column: &[F]) -> Option<usize>
         .max()
 }
 
-// The product of a row and a column.
+// The product of a row and a column. The clause says little, as that of `is_block`.
 pub fn product_with<F: Field>(row: &Row, column: &[F]) -> [u16; LENGTH]
     ensures { column.now ≡ [] → result ≡ replicate LENGTH 0 }
 {
@@ -90,6 +96,7 @@ pub fn product_with<F: Field>(row: &Row, column: &[F]) -> [u16; LENGTH]
 pub fn differences<F: Field>(left: &[F], right: &[F]) -> usize
     ensures left { result ≤ length left.now }
     ensures right { result ≤ length right.now }
+    ensures count { result ≡ differing (λ x. F.number (F.member x)) left.now right.now }
 {
     left.iter()
         .zip(right)
@@ -99,7 +106,8 @@ pub fn differences<F: Field>(left: &[F], right: &[F]) -> usize
 
 // Whether two messages of one length are the same but from one time to another.
 pub fn same_outside<F: Field>(left: &[F], right: &[F], from: usize, to: usize) -> bool
-    ensures { left.now ≡ right.now → IsTrue result }
+    ensures same { left.now ≡ right.now → IsTrue result }
+    ensures outside { IsTrue result ↔ SameOutside (λ x. F.number (F.member x)) from to left.now right.now }
 {
     left.iter().zip(right).enumerate().all(|(time, (x, y))| (from <= time && time <= to)
         || x.code() == y.code())

@@ -1,4 +1,6 @@
 // The second solver's route to ranks and least degrees: one degree bound after the other, by an elimination of its own.
+ghost use Rattle.std.specs.Prelude.{◌<◌};
+
 use crate::codes::{add_shifted, inverse, member_of, scale, top_of};
 use crate::rows::Row;
 use crate::sizes::{GENERATORS, LENGTH, POWERS};
@@ -51,7 +53,9 @@ impl Echelon {
     }
 
     // Takes in s^k times each polynomial of a row.
-    fn insert_power<F: Field>(&mut self, row: &Row, k: usize) {
+    fn insert_power<F: Field>(&mut self, row: &Row, k: usize)
+        requires { k < POWERS }
+    {
         for polynomial in row.polynomials() {
             self.insert::<F>(shifted(polynomial, k));
         }
@@ -64,11 +68,11 @@ impl Echelon {
 }
 
 // s^k times a polynomial.
-fn shifted(polynomial: &[u16], k: usize) -> [u16; LENGTH] {
+fn shifted(polynomial: &[u16; POWERS], k: usize) -> [u16; LENGTH]
+    requires { k < POWERS }
+{
     let mut list = [0; LENGTH];
-    for (x, code) in list.iter_mut().skip(k).zip(polynomial) {
-        *x = *code;
-    }
+    list[k..k + POWERS].copy_from_slice(polynomial);
     list
 }
 
@@ -123,13 +127,8 @@ fn columns_within(n: usize, ranks: &[usize; POWERS]) -> [usize; POWERS] {
     within
 }
 
-// The least degree of check column j: one more than the highest of which fewer columns have at most that degree.
-fn check_degree(within: &[usize; POWERS], j: usize) -> usize {
-    let short = within.iter().rposition(|columns| *columns < j);
-    short.map_or(0, |degree| degree.saturating_add(1))
-}
-
-// The least degrees of the columns, by that of the first and by how many check columns have at most each degree.
+// The least degrees of the columns, by that of the first and by how many check columns have at most each degree: that of check column j
+// is the first that j of them do not exceed.
 fn column_degrees(
     n: usize,
     first: Option<usize>,
@@ -140,7 +139,7 @@ fn column_degrees(
         *degree = if j == 0 {
             first
         } else {
-            Some(check_degree(within, j))
+            within.iter().position(|columns| j <= *columns)
         };
     }
     degrees

@@ -1,7 +1,7 @@
 // Cards by their layout: what a design's card holds byte for byte, and what any bytes mean as a card.
 use crate::faults::Fault;
 use crate::rows::Row;
-use crate::sizes::{GENERATORS, POWERS};
+use crate::sizes::{GENERATORS, HEADER, POWERS, RECORD};
 use fields::field::Field;
 use std::alloc::{AllocError, Global};
 
@@ -57,7 +57,7 @@ fn follow(card: &[u8], place: usize) -> Result<Option<usize>, Fault> {
     let heads = usize::from(byte(card, 1));
     Ok(
         link.checked_sub(1)
-            .map(|before| 3 + heads + 4 * usize::from(before)),
+            .map(|before| HEADER + heads + RECORD * usize::from(before)),
     )
 }
 
@@ -73,7 +73,7 @@ fn read_record<F: Field>(card: &[u8], place: usize, floor: u8) -> Result<Record,
     let low = place.saturating_add(1);
     let power = byte(card, place);
     let code = u16::from_le_bytes([byte(card, low), byte(card, low.saturating_add(1))]);
-    if 16 < power {
+    if POWERS <= usize::from(power) {
         Err(Fault::new(4, place))
     } else if power < floor {
         Err(Fault::new(16, place))
@@ -86,9 +86,9 @@ fn read_record<F: Field>(card: &[u8], place: usize, floor: u8) -> Result<Record,
     }
 }
 
-// Enters the chain of polynomial i, of at most 17 records, into a row.
+// Enters the chain of polynomial i, of a record for each power at most, into a row.
 fn walk_chain<F: Field>(card: &[u8], row: &mut Row, i: usize) -> Result<(), Fault> {
-    let mut link = i.saturating_add(3);
+    let mut link = i.saturating_add(HEADER);
     let mut floor = 0;
     for _ in 0..=POWERS {
         let Some(place) = follow(card, link)? else {
@@ -97,7 +97,7 @@ fn walk_chain<F: Field>(card: &[u8], row: &mut Row, i: usize) -> Result<(), Faul
         let Record { power, code } = read_record::<F>(card, place, floor)?;
         row.put(i, usize::from(power), code);
         floor = power.saturating_add(1);
-        link = place.saturating_add(3);
+        link = place.saturating_add(RECORD - 1);
     }
     Err(Fault::new(16, link))
 }
@@ -105,12 +105,12 @@ fn walk_chain<F: Field>(card: &[u8], row: &mut Row, i: usize) -> Result<(), Faul
 // The number of generators of a card, by the questions that are asked before any chain is walked.
 fn read_head<F: Field>(card: &[u8]) -> Result<usize, Fault> {
     let n = usize::from(byte(card, 1));
-    let length = 3 + n + 4 * usize::from(byte(card, 2));
-    if card.len() < 3 || card.len() != length {
+    let length = HEADER + n + RECORD * usize::from(byte(card, 2));
+    if card.len() < HEADER || card.len() != length {
         Err(Fault::new(13, 0))
     } else if byte(card, 0) != F::kind() {
         Err(Fault::new(14, 0))
-    } else if n < 2 || GENERATORS < n {
+    } else if !(2..=GENERATORS).contains(&n) {
         Err(Fault::new(2, 0))
     } else {
         Ok(n)

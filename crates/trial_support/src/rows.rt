@@ -1,18 +1,20 @@
 // Rows of generators: of many shapes, drawn at random.
 ghost use Rattle.std.specs.Prelude.{◌≡◌, ◌≢◌, ℕ, List, ◌≤◌, Some, IsTrue, All, slice_get, take};
+ghost use Rattle.trial_support.specs.declared.sizes.TheConstants.{GENERATORS};
 
 use crate::codes::{add_product, top_of};
 use crate::draws::Draws;
 use crate::sizes::{GENERATORS, POWERS};
 use fields::field::Field;
 
-// A row of n polynomials, each by the codes of its coefficients; those from n on are zero.
+// A row of n polynomials, each by the codes of its coefficients; those from n on are zero. All have their place, with n beside them:
+// a `Vec` of n would bring the heap, and its refusal, to every row that is drawn or read.
 #[derive(Clone, Copy)]
 pub struct Row {
     pub n: usize,
     pub polynomials: [[u16; POWERS]; GENERATORS],
     ghost some: { 1 ≤ n },
-    ghost few: { n ≤ 8 },
+    ghost few: { n ≤ GENERATORS },
 }
 
 #[derive(Clone, Copy, PartialEq, Eq)]
@@ -109,7 +111,7 @@ struct Plan {
 }
 
 fn draw_plan(draws: &mut Draws, shape: Shape) -> Plan {
-    let n = draws.place(7) + 2;
+    let n = draws.place(GENERATORS - 1) + 2;
     match shape {
         Shape::Plain | Shape::Sparse | Shape::Empty => Plan {
             n,

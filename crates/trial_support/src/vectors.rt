@@ -9,12 +9,11 @@ const WIDTH: usize = GENERATORS + 1;
 // The places: 17 powers of the vector, and above them 17 of the product.
 pub const PLACES: usize = 2 * POWERS * WIDTH;
 
-// Power k of component i stands at 9 k + i. The product is raised by 17 powers, so that it leads while it is not zero.
+// Power k of component i stands at 9 k + i. The product is raised by 17 powers, so that it leads while it is not zero. One flat list,
+// since the order of the places is what reduces: the highest leads, and a multiple by a power of s is the list moved up.
 #[derive(Clone, Copy)]
 pub struct Vector {
     cells: [u16; PLACES],
-    // The highest place that is not zero.
-    leading: Option<usize>,
 }
 
 // The component of a place.
@@ -31,10 +30,7 @@ fn copy_component(part: &mut [u16], powers: &[u16], i: usize) {
 
 impl Vector {
     pub fn zero() -> Vector {
-        Vector {
-            cells: [0; PLACES],
-            leading: None,
-        }
+        Vector { cells: [0; PLACES] }
     }
 
     // Unit vector i beside its product.
@@ -48,18 +44,12 @@ impl Vector {
                 *cell = *code;
             }
         }
-        unit.settle();
         unit
     }
 
-    // Finds the leading place anew.
-    fn settle(&mut self) {
-        self.leading = top_of(&self.cells);
-    }
-
-    // The leading place, absent for the zero vector.
+    // The leading place, the highest that is not zero; absent for the zero vector.
     pub fn leading(&self) -> Option<usize> {
-        self.leading
+        top_of(&self.cells)
     }
 
     // The code at a place; what lies past the end counts as zero.
@@ -69,13 +59,13 @@ impl Vector {
 
     // Whether the product is not zero.
     pub(crate) fn has_product(&self) -> bool {
-        self.leading
+        self.leading()
             .is_some_and(|leading| component_of(leading) == GENERATORS)
     }
 
     // Makes the coefficient at a place zero by a multiple of another vector, whose leading place comes to lie there.
     pub fn cancel<F: Field>(&mut self, place: usize, other: &Vector) {
-        let Some(leading) = other.leading else {
+        let Some(leading) = other.leading() else {
             return;
         };
         let Some(by) = place.checked_sub(leading) else {
@@ -83,12 +73,11 @@ impl Vector {
         };
         let x = member_of::<F>(self.at(place)).multiply(inverse(other.at(leading)));
         add_shifted(&mut self.cells, by, x.negate(), &other.cells);
-        self.settle();
     }
 
     // Makes the leading coefficient 1, where there is one.
     pub fn make_monic<F: Field>(&mut self) {
-        if let Some(leading) = self.leading {
+        if let Some(leading) = self.leading() {
             let x = inverse::<F>(self.at(leading));
             scale(&mut self.cells, x);
         }

@@ -84,9 +84,11 @@ impl<F: Field + Drop> Sending<'_, F> {
         .is_ok()
     }
 
-    // Whether the block with one symbol changed is told unclean, or, where the stream of the symbol is the only one that is not zero, is
-    // the block of another message; and spoils few symbols, all from its time on.
-    fn hit_agrees(&mut self, time: usize, alone: bool) -> bool {
+    // Whether the block with the symbol at a place changed is told unclean, or, where the stream of the symbol is the only one that is not
+    // zero, is the block of another message; and spoils few symbols, all from its time on.
+    fn hit_agrees(&mut self, place: usize) -> bool {
+        let time = place / self.row.n;
+        let alone = self.row.is_alone(place % self.row.n);
         let [reach, ..] = self.framed.columns().to_le_bytes();
         let reach = usize::from(reach);
         if !self.invert() {
@@ -117,19 +119,17 @@ impl<F: Field + Drop> Sending<'_, F> {
         changes: u32,
         mut next: C,
     ) -> Tally
-        requires { C.IsAlwaysCallable next }
+        requires { (f : C) (x : _) → C.pre f x }
     {
-        let mut tally = Tally::default();
         let right = code_at(self.block.as_slice(), place);
-        let time = place / self.row.n;
-        let alone = self.row.is_alone(place % self.row.n);
-        for step in 0..changes {
+        let tally = Tally::of(changes, |step| {
             let code = next(step);
-            if code != right {
-                self.set(place, code);
-                tally.note(self.hit_agrees(time, alone));
+            if code == right {
+                return None;
             }
-        }
+            self.set(place, code);
+            Some(self.hit_agrees(place))
+        });
         self.set(place, right);
         tally
     }

@@ -6,7 +6,7 @@ use fields::field::Field;
 use trial_support::blocks::{column, component, degree_of, differences, product_with};
 use trial_support::bounds::{Bounds, bound};
 use trial_support::rows::Row;
-use trial_support::sizes::{COLUMNS, GENERATORS, LENGTH, POWERS};
+use trial_support::sizes::{COLUMNS, GENERATORS, LENGTH, POWERS, ROW};
 use trial_support::solver::solve;
 
 // How many columns, and components of each, are asked for: one more than there can be.
@@ -24,7 +24,7 @@ pub(crate) fn frame_agrees<F: Field>(row: &Row, framed: &Framed, frame: &[F]) ->
         && components_agree(framed, frame)
 }
 
-// Whether the numbers that a framed design keeps are those that the degree bounds give.
+// Whether the numbers that a framed design keeps are those that the degree bounds give. It keeps 0 for a column that is not there.
 pub fn numbers_agree(row: &Row, framed: &Framed, bounds: &Bounds) -> bool {
     let degrees = framed.columns().to_le_bytes();
     framed.generators() == row.n
@@ -39,8 +39,8 @@ pub fn numbers_agree(row: &Row, framed: &Framed, bounds: &Bounds) -> bool {
 
 // Whether the columns, as they stand in the table, have their least degrees.
 fn degrees_agree<F: Field>(frame: &[F], bounds: &Bounds) -> bool {
-    let mut degrees = bounds.degrees.iter().enumerate();
-    degrees.all(|(j, least)| degree_of(GENERATORS, column(frame, j)) == *least)
+    let mut degrees = bounds.degrees.iter().zip(frame.chunks(ROW));
+    degrees.all(|(least, column)| degree_of(GENERATORS, column) == *least)
 }
 
 // Whether a frame table ends with the divisor.
@@ -52,9 +52,10 @@ pub(crate) fn holds_divisor<F: Field>(frame: &[F], bounds: &Bounds) -> bool {
 
 // Whether the row times each column is the divisor, for column 0, or zero.
 fn products_agree<F: Field>(row: &Row, frame: &[F], bounds: &Bounds) -> bool {
-    (0..row.n).all(|j| {
+    let mut columns = frame.chunks(ROW).take(row.n).enumerate();
+    columns.all(|(j, column)| {
         let expected = if j == 0 { bounds.divisor } else { [0; LENGTH] };
-        product_with(row, column(frame, j)) == expected
+        product_with(row, column) == expected
     })
 }
 

@@ -62,6 +62,13 @@ pub fn reading_agrees<F: Field>(bytes: &[u8], table: &mut [F]) -> bool {
     }
 }
 
+// Sets the byte at a place.
+fn set(card: &mut [u8], place: usize, value: u8) {
+    if let Some(byte) = card.get_mut(place) {
+        *byte = value;
+    }
+}
+
 // Damages the byte at a place so many times, each time to the next value.
 fn damage_byte<F: Field, V: FnMut(u32) -> u32>(
     card: &mut [u8],
@@ -70,19 +77,16 @@ fn damage_byte<F: Field, V: FnMut(u32) -> u32>(
     values: u32,
     mut next: V,
 ) -> Tally
-    requires { V.IsAlwaysCallable next }
+    requires { (f : V) (x : _) → V.pre f x }
 {
-    let mut tally = Tally::default();
-    let right = card.get(place).copied();
-    for step in 0..values {
-        if let Some(byte) = card.get_mut(place) {
-            *byte = u8::try_from(next(step)).unwrap_or(0);
-        }
-        tally.note(reading_agrees(card, table));
-    }
-    if let (Some(byte), Some(right)) = (card.get_mut(place), right) {
-        *byte = right;
-    }
+    let Some(right) = card.get(place).copied() else {
+        return Tally::default();
+    };
+    let tally = Tally::of(values, |step| {
+        set(card, place, u8::try_from(next(step)).unwrap_or(0));
+        Some(reading_agrees(card, table))
+    });
+    set(card, place, right);
     tally
 }
 

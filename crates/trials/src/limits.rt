@@ -13,7 +13,10 @@ use std::alloc::{AllocError, Global};
 use tones::Tone;
 use trial_support::faults::Fault;
 use trial_support::rows::Row;
-use trial_support::sizes::{CARD, ROW};
+use trial_support::sizes::{CARD, GENERATORS, POWERS, ROW};
+
+// The longest message.
+const LONGEST: usize = 4096;
 
 // The number of a refusal, absent for a grant.
 fn refusal<T: Drop, E: Refusal + Drop>(answer: Result<T, E>) -> Option<u8> {
@@ -31,7 +34,7 @@ fn begun(n: usize, length: usize) -> Option<u8> {
 fn try_begin() -> Tally {
     let mut tally = Tally::default();
     for n in 0..20usize {
-        let number = if n < 2 || 8 < n { Some(2) } else { None };
+        let number = (!(2..=GENERATORS).contains(&n)).then_some(2);
         tally.note(begun(n, ROW) == number);
         tally.note(begun(n, ROW - 1) == Some(1));
         tally.note(begun(n, ROW + 1) == Some(1));
@@ -43,15 +46,15 @@ fn try_begin() -> Tally {
 fn try_put() -> Tally {
     let mut tally = Tally::default();
     let mut table = [Tone::T0; ROW];
-    let Ok(draft) = Draft::begin(8, &mut table) else {
+    let Ok(draft) = Draft::begin(GENERATORS, &mut table) else {
         tally.note(false);
         return tally;
     };
-    tally.note(refusal(draft.put(&mut table[0..ROW - 1], 8, 17, 31)) == Some(1));
+    tally.note(refusal(draft.put(&mut table[0..ROW - 1], GENERATORS, POWERS, 31)) == Some(1));
     for (i, power, code, number) in [
         (7, 16, 30, None),
-        (8, 16, 30, Some(3)),
-        (7, 17, 30, Some(4)),
+        (GENERATORS, 16, 30, Some(3)),
+        (7, POWERS, 30, Some(4)),
         (7, 16, 31, Some(5)),
         (usize::MAX, usize::MAX, u32::MAX, Some(3)),
         (0, usize::MAX, u32::MAX, Some(4)),
@@ -71,11 +74,7 @@ fn try_length(
     symbols: usize,
 ) -> Result<Tally, AllocError> {
     let mut tally = Tally::default();
-    let number = if symbols < 1 || 4096 < symbols {
-        Some(12)
-    } else {
-        None
-    };
+    let number = (!(1..=LONGEST).contains(&symbols)).then_some(12);
     let mut message = vec![in heap; Tone::T4; symbols]?;
     let mut block = vec![in heap; Tone::T0; symbols.saturating_add(2).saturating_mul(2)]?;
     let encoded = encode(
@@ -135,7 +134,7 @@ fn try_lengths(heap: Global) -> Result<Tally, AllocError> {
     let shared = tables.frame(&square_and_shift());
     let framed = tables.frame(&square_and_line());
     if let (Some(shared), Some(framed)) = (shared, framed) {
-        for symbols in [0, 1, 2, 4095, 4096, 4097] {
+        for symbols in [0, 1, 2, LONGEST - 1, LONGEST, LONGEST + 1] {
             tally.add(try_length(heap, &framed, &tables, symbols)?);
         }
         tally.add(try_link(&framed, &shared, &tables));

@@ -6,7 +6,6 @@ use design::draft::Draft;
 use design::framed::Framed;
 use fields::field::Field;
 use std::alloc::{AllocError, Global};
-use trial_support::blocks::code_at;
 use trial_support::bounds::{Bounds, bound};
 use trial_support::codes::write_members;
 use trial_support::draws::Draws;
@@ -39,9 +38,9 @@ impl<'a> Offers<'a> {
     // Whether a frame table holds the first n rows and columns of what was offered, the divisor, and zero elsewhere.
     fn holds_offered<F: Field>(&self, frame: &[F], offered: &[F]) -> bool {
         let n = self.row.n;
-        let columns = (0..COLUMNS).all(|place| {
+        let columns = frame.iter().zip(offered).enumerate().all(|(place, (kept, given))| {
             let within = place / ROW < n && place % ROW / POWERS < n;
-            code_at(frame, place) == if within { code_at(offered, place) } else { 0 }
+            kept.code() == if within { given.code() } else { 0 }
         });
         columns && frame.len() == FRAME && holds_divisor(frame, &self.bounds)
     }

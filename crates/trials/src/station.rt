@@ -7,6 +7,7 @@ use std::alloc::{AllocError, Global};
 use trial_support::rows::Row;
 use trial_support::sizes::{FRAME, POWERS, ROW, WORK};
 
+// The tests have tables of their own, by the library's sizes: these are by those of the second route, which the calls then confirm.
 #[derive(Drop)]
 pub struct Tables<F: Field + Drop> {
     pub generators: Vec<F>,
@@ -49,6 +50,7 @@ impl<F: Field + Drop> Tables<F> {
 
 // Fills a table with ones.
 pub fn mark<F: Field>(table: &mut [F]) {
+    // `fill` asks that a clone is the element, which is no law of a field.
     for x in table {
         *x = F::one();
     }

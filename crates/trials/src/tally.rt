@@ -6,6 +6,19 @@ pub struct Tally {
 }
 
 impl Tally {
+    // Counts so many trials, each by its number; one that tells nothing is not counted.
+    pub(crate) fn of<T: FnMut(u32) -> Option<bool>>(trials: u32, mut agrees: T) -> Tally
+        requires { (state : T) (trial : _) → T.pre state trial }
+    {
+        let mut tally = Tally::default();
+        for step in 0..trials {
+            if let Some(agreed) = agrees(step) {
+                tally.note(agreed);
+            }
+        }
+        tally
+    }
+
     // Counts one more trial.
     pub fn note(&mut self, agreed: bool) {
         self.tried = self.tried.saturating_add(1);

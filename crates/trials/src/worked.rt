@@ -11,7 +11,8 @@ use tones::Tone;
 use trial_support::rows::Row;
 use trial_support::sizes::{CARD, FRAME, POWERS, ROW};
 
-// A nonzero coefficient of a row: its polynomial, power and code.
+// A nonzero coefficient of a row: its polynomial, power and code. A term of the tests is given to a call, which takes any number as a
+// code; this one is a code.
 #[derive(Clone, Copy)]
 pub struct Term(pub usize, pub usize, pub u16);
 
@@ -178,8 +179,8 @@ pub fn try_card_bytes(tables: &mut Tables<Tone>) -> Tally {
         let written = write_card(&draft, generators, &mut buffer);
         tally.note(matches!(written, Ok(17)));
     }
-    tally.note(buffer.get(..17) == Some(&bytes));
-    tally.note(buffer.iter().skip(17).all(|byte| *byte == 0));
+    tally.note(buffer.get(..bytes.len()) == Some(&bytes));
+    tally.note(buffer.iter().skip(bytes.len()).all(|byte| *byte == 0));
     tally.note(reading_agrees(&bytes, generators));
     tally
 }

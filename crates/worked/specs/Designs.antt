@@ -1,4 +1,5 @@
--- Worked designs, each with its generators, divisor, degree and columns, and a worked message. The clause of the crate cites it; it assumes nothing.
+-- Worked designs, each with its generators, divisor, degree and columns, and a worked message. The clause of the crate cites it; it
+-- assumes nothing.
 use Rattle.std.specs.Prelude.{ℕ, ◌/◌, ◌%◌, List, [], ◌∷◌}
 use Rattle.algebra.specs.Link.{Encodes}
 use Rattle.algebra.specs.Lists.{listed, listed_row, listed_block, Design, each, AllFrames}

@@ -1,5 +1,5 @@
-// Worked designs, shown to be the frames of the definitions; and cases worked out by hand: designs with their frames, products, a card, a block, and a
-// design that the link turns away.
+// Worked designs, shown to be the frames of the definitions; and cases worked out by hand: designs with their frames, products, a card,
+// a block, and a design that the link turns away.
 #![tactic(auto)]
 
 ghost use Rattle.worked.specs.Designs.{WorkedDesigns};

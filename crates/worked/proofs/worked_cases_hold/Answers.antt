@@ -1,53 +1,13 @@
-use Rattle.std.proofs.Common.{ℕ, List, [], ◌∷◌, ◌++◌, refl}
-use Rattle.algebra.specs.Rings.{IsField, Numbering}
+use Rattle.std.proofs.Common.{List, [], ◌∷◌, ◌++◌, refl}
 use Rattle.algebra.specs.Lists.{Design, each, AllFrames}
-use Rattle.algebra.proofs.Fields.{field_of}
-use Rattle.algebra.proofs.ComputedFrames.{Hint, frames_by_tests, encodes_by_test}
-use Rattle.nibbles.specs.Nibbles.{code_of, nibble_ops}
-use Rattle.nibbles.specs.declared.Nibble.TheVariants.{N1, N8}
-use Rattle.nibbles.specs.NibblesLemmas.{nibble_field, nibble_numbering, nibble_invertible, no_root}
-use Rattle.pairs.specs.Pairs.{pair_number}
-use Rattle.pairs.specs.Codes.{pair_numbering, decide_zero}
-use Rattle.pairs.specs.Laws.{pair_field, pair_invertible}
 use Rattle.tones.specs.Tones.{tone_ops, tone_of}
-use Rattle.tones.specs.TonesLemmas.{tone_field, tone_numbering, tone_invertible}
 use Rattle.towers.specs.Worked.{Example, worked, byte_ops, AllHold as AllProducts}
 use Rattle.towers.proofs.Worked.{all_hold}
 use Rattle.worked.specs.Cases.{Case, AllHold, other_cases}
 use Rattle.worked.specs.Cases.Case.{tone_design, byte_design, products}
 use Rattle.worked.specs.Designs.{tone_designs, byte_of, byte_designs}
+use Rattle.worked.proofs.Frames.{tone_frames, byte_frames, message_encoded}
 use Rattle.worked.proofs.worked_cases_hold.Goals as goal
-
-field : IsField tone_ops
-field = field_of tone_field tone_numbering tone_invertible
-
-byte_numbering : Numbering byte_ops 256 (pair_number 16 code_of)
-byte_numbering = pair_numbering nibble_numbering N1 N8
-
-byte_field : IsField byte_ops
-byte_field =
-    field_of (pair_field nibble_ops N1 N8 nibble_field) byte_numbering
-    (pair_invertible nibble_ops N1 N8 nibble_field (decide_zero nibble_numbering) nibble_invertible (no_root N1 N8 tt))
-
-abbrev hint : ℕ → List (List ℕ) → ℕ → List ℕ → ℕ → Hint
-hint e r q p S = record { divisor_degree = e; row = r; component = q; places = p; bound = S }
-
-abbrev hints : List Hint
-hints =
-    hint 0 ((1 ∷ []) ∷ (0 ∷ 1 ∷ []) ∷ []) 1 (2 ∷ []) 2
-    ∷ hint 0 ((1 ∷ []) ∷ (0 ∷ 1 ∷ []) ∷ (0 ∷ 0 ∷ 1 ∷ []) ∷ []) 2 (3 ∷ 4 ∷ []) 3
-    ∷ hint 0 ((0 ∷ 1 ∷ []) ∷ (1 ∷ 1 ∷ []) ∷ []) 0 (3 ∷ []) 2
-    ∷ hint 1 ((0 ∷ 1 ∷ []) ∷ (1 ∷ 1 ∷ []) ∷ []) 0 (3 ∷ []) 3
-    ∷ hint 0 ((0 ∷ 0 ∷ 1 ∷ []) ∷ (1 ∷ 1 ∷ []) ∷ []) 0 (5 ∷ []) 3
-    ∷ hint 0 ([] ∷ (5 ∷ []) ∷ []) 1 (0 ∷ []) 1
-    ∷ hint 0 ((1 ∷ []) ∷ [] ∷ (0 ∷ 0 ∷ 0 ∷ 1 ∷ []) ∷ []) 2 (1 ∷ 9 ∷ []) 4
-    ∷ []
-
-tone_frames : AllFrames tone_ops tone_of tone_designs
-tone_frames = frames_by_tests tone_numbering field tone_of tone_designs hints (tt, (tt, (tt, (tt, (tt, (tt, (tt, tt)))))))
-
-byte_frames : AllFrames byte_ops byte_of byte_designs
-byte_frames = frames_by_tests byte_numbering byte_field byte_of byte_designs (hint 0 ((16 ∷ []) ∷ (0 ∷ 1 ∷ []) ∷ []) 1 (2 ∷ []) 2 ∷ []) (tt, tt)
 
 -- the conjunction over a list that two lists make
 both : (xs ys : List Case) → AllHold xs → AllHold ys → AllHold (xs ++ ys)
@@ -67,13 +27,7 @@ products_hold [] f = tt
 products_hold (e ∷ es) f = (f.0, products_hold es f.1)
 
 others_hold : AllHold other_cases
-others_hold = (
-  refl,
-  (
-    encodes_by_test tone_numbering field tone_of 2 (each (each tone_of) ((0 ∷ 0 ∷ 1 ∷ []) ∷ (1 ∷ 1 ∷ []) ∷ [])) 2 (each tone_of (3 ∷ 1 ∷ [])) (each tone_of (0 ∷ 3 ∷ 0 ∷ 4 ∷ 3 ∷ 1 ∷ 1 ∷ 0 ∷ [])) 8 tt,
-    (((λ symbols block. refl), refl), tt),
-  ),
-)
+others_hold = (refl, (message_encoded, (((λ symbols block. refl), refl), tt)))
 
 pub returns : goal.returns
 returns c =
