@@ -14,6 +14,7 @@ use Rattle.algebra.proofs.Rows.{cut, cut_low, cut_high}
 use Rattle.algebra.proofs.Spans as Spans
 use Rattle.algebra.proofs.Sums as Sums
 use Rattle.frames.specs.Rows.{Highest}
+use Rattle.framing.proofs.ColumnDegrees.{highest_degree}
 use Rattle.judging.specs.Columns.{InOrder, NoHigher}
 use Rattle.judging.specs.Questions.{InDegree, FirstOutside}
 use Rattle.judging.proofs.Vectors.{spanned_dependent}
@@ -30,10 +31,6 @@ module _ {M : Type 0} (o : RingOps M) (field : IsField o) where
   found_degree : (n : ℕ) (h : ℕ → ℕ → M) (d e : ℕ) → Highest o n h d → VectorDegree o n h e → d ≡ e
   found_degree n h d e (inl z) v = absurd (v.top (ap (λ (f : ℕ → M). f e) (z.0 v.component v.within)))
   found_degree n h d e (inr u) v = vector_degree_unique o field n h h d e (λ i l. refl) u v
-
-  pub found_nonzero : (n : ℕ) (h : ℕ → ℕ → M) (d : ℕ) → Highest o n h d → (AllZero o n h → ⊥) → VectorDegree o n h d
-  found_nonzero n h d (inl z) some = absurd (some z.0)
-  found_nonzero n h d (inr v) some = v
 
   -- δ has the degrees that were found, 0 for a check column that is zero
   module _ (n m : ℕ) (c : ℕ → ℕ → ℕ → M) (δ : ℕ → ℕ) (found : (j : ℕ) → j < m → Highest o n (c (suc j)) (δ j)) where
@@ -65,7 +62,7 @@ module _ {M : Type 0} (o : RingOps M) (field : IsField o) where
         independent
 
     degrees : Independent o All m n leading → (j : ℕ) → j < m → VectorDegree o n (c (suc j)) (δ j)
-    degrees independent j h = found_nonzero n (c (suc j)) (δ j) (found j h) (nonzero independent j h)
+    degrees independent j h = highest_degree o n (δ j) (c (suc j)) (found j h) (nonzero independent j h)
 
     pub in_degree : (d : ℕ) → InOrder m d δ → Independent o All m n leading → InDegree o n m d c
     in_degree d order independent = record { degree = δ; degrees = degrees independent; never_fall = order.0; degrees_sum = order.1; independent = independent }

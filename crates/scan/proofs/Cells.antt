@@ -1,15 +1,15 @@
 -- Places of a column in the frame table: cell_room and cell_injective, and a column written place by place.
-use mathlib.Core.List.{List, [], ◌∷◌}
+use mathlib.Core.List.{List}
 use mathlib.Core.Path.{◌≡◌, refl, sym, ap, ap₂, ◌∙◌}
-use Prim.Native.Nat.{ℕ, suc, ◌+◌, ◌*◌, ◌/◌, ◌%◌, ◌<◌, ◌≤◌}
+use Prim.Native.Nat.{ℕ, ◌+◌, ◌*◌, ◌/◌, ◌%◌, ◌<◌, ◌≤◌}
 use native.Mathlib.Decide.{dec_lt}
-use native.Mathlib.Nat.{not-suc-le-zero, le_of_suc-le-suc, mod-lt, div-add-mod, mul-le-mul_left}
+use native.Mathlib.Nat.{not-suc-le-zero, mod-lt, div-add-mod, mul-le-mul_left}
 use native.Mathlib.Omega.{arith}
 use borrow.Author.Count.{below_more}
 use lib.ListN.{length, get_or}
 use Rattle.std.specs.List.{zip}
 use Rattle.std.proofs.lemmas.List.{get_or_default}
-use Rattle.std.proofs.lemmas.Slice.Zip.{get_or-zip}
+use Rattle.std.proofs.lemmas.Slice.Zip.{get_or-zip, length-zip}
 use Rattle.algebra.specs.Rings.{RingOps}
 use Rattle.tables.specs.Places.{at, Kept}
 use Rattle.tables.proofs.Places.{at_read}
@@ -34,15 +34,10 @@ cell_injective n j p q h l a b e =
     sym (div-add-mod p n) ∙ ap₂ (λ s t. n * s + t) same_power same_class ∙ div-add-mod q n
 
 -- a list beside a shorter one of places
-pub zipped_all : {F : Type 0} (places : List ℕ) (list : List F) → length places ≤ length list → length (zip places list) ≡ length places
-zipped_all [] list room = refl
-zipped_all (p ∷ ps) [] room = absurd (not-suc-le-zero room)
-zipped_all (p ∷ ps) (x ∷ xs) room = ap suc (zipped_all ps xs (le_of_suc-le-suc room))
-
 pub zipped_is : {F M : Type 0} (o : RingOps M) (member : F → M) (places : List ℕ) (list : List F) (t : ℕ) (p : ℕ × F) → length places ≤ length list
     → (t < length (zip places list)) × (p ≡ get_or (zip places list) t p) → (t < length places) × ((p.0 ≡ entry_at places t) × (at o member list t ≡ member p.1))
 zipped_is o member places list t p room (less, e) =
-    let inside : t < length places = omega (arith, zipped_all places list room) in
+    let inside : t < length places = omega (arith, length-zip places list) in
     let within : t < length list = omega arith in
     let is : p ≡ (get_or places t p.0, get_or list t p.1) = e ∙ get_or-zip places list t p inside within in
     (inside, (ap (λ q. q.0) is ∙ get_or_default places t p.0 0 inside, at_read o member list t p.1 within ∙ ap member (sym (ap (λ q. q.1) is))))

@@ -5,9 +5,10 @@ use Rattle.std.proofs.lemmas.List.{length-take-le}
 use Rattle.algebra.specs.Divisors.{Combination, VectorDegree}
 use Rattle.algebra.specs.Frames.{FrameColumns}
 use Rattle.algebra.specs.Series.{series}
-use Rattle.frames.specs.Rows.{generator_in, gcd_in, quotient_in, column_in}
+use Rattle.frames.specs.Rows.{generator_in, quotient_in, column_in}
+use Rattle.tables.proofs.Parts.{poly_at_kept}
 use Rattle.tables.proofs.Slices.{at_left}
-use Rattle.scan.proofs.RowParts.{row_part, part_same}
+use Rattle.scan.proofs.RowParts.{row_part}
 use Rattle.scan.proofs.write_frame.Goals as goal
 
 pub slice_bounds-clear-end-2 : goal.slice_bounds-clear-end-2
@@ -35,7 +36,7 @@ returns-clause-columns g c =
 pub returns-clause-divisor : goal.returns-clause-divisor
 returns-clause-divisor g c =
     let f = g.F.Field in
-    part_same f.ops f.member c.copy_from.new.table c.scan.new.frame 1088 17 (gcd_in f.ops f.member c.args.work.now) c.scan.ensures.behind c.copy_from.ensures.copy
+    poly_at_kept f.ops f.member c.copy_from.new.table c.scan.new.frame 0 1088 1088 17 c.scan.ensures.behind (λ k w v. omega arith) ∙ c.copy_from.ensures.copy
 
 pub invariant_of-row-clause-degree : goal.invariant_of-row-clause-degree
 invariant_of-row-clause-degree g c =

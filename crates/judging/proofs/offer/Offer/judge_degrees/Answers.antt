@@ -7,6 +7,7 @@ use Rattle.algebra.proofs.Fields.{field_of}
 use Rattle.elimination.specs.Steps.{entry_at}
 use Rattle.frames.specs.Rows.{Highest}
 use Rattle.framing.specs.Framing.{column_in}
+use Rattle.framing.proofs.ColumnDegrees.{highest_degree}
 use Rattle.judging.specs.declared.objection.Objection.TheVariants.{Degrees}
 use Rattle.judging.specs.Columns.{check_degree}
 use Rattle.judging.specs.Questions.{not_in_degree, first_inside}
@@ -64,7 +65,7 @@ returns-then-not-outside g c =
     let independent = rw same at (some_found _ _ c.eliminate.result (sym c.ok_or.ensures.variant ∙ ap is_ok c.in_ok-ok_or.was) c.eliminate.ensures.answer) in
     let few = rw same at c.count_no_higher-count.ensures in
     let inside = rw same at c.if-not-outside.ensures in
-    let first = Test.found_nonzero f.ops field n (columns 0) e (degrees 0 (omega arith)) c.requires in
+    let first = highest_degree f.ops n e (columns 0) (degrees 0 (omega arith)) c.requires in
     first_inside refl (Test.in_degree f.ops field n (n - 1) columns δ found c.args.d order independent)
     (λ out. inside (λ s. Test.outside_no f.ops field n (n - 1) columns δ found e c.count_no_higher-count.result first few order.0 independent s out))
 
@@ -83,7 +84,7 @@ returns g c =
     let independent = rw same at (some_found _ _ c.eliminate.result (sym c.ok_or.ensures.variant ∙ ap is_ok c.in_ok-ok_or.was) c.eliminate.ensures.answer) in
     let few = rw same at c.count_no_higher-count.ensures in
     let outside = rw same at c.if-not-outside.ensures in
-    let first = Test.found_nonzero f.ops field n (columns 0) e (degrees 0 (omega arith)) c.requires in (
+    let first = highest_degree f.ops n e (columns 0) (degrees 0 (omega arith)) c.requires in (
       Test.in_degree f.ops field n (n - 1) columns δ found c.args.d order independent,
       Test.outside_yes f.ops field n (n - 1) columns δ found e c.count_no_higher-count.result first few order.0 outside,
     )
