@@ -86,16 +86,19 @@ fn read_record<F: Field>(card: &[u8], place: usize, floor: u8) -> Result<Record,
     }
 }
 
-// Enters the chain of polynomial i, of a record for each power at most, into a row.
-fn walk_chain<F: Field>(card: &[u8], row: &mut Row, i: usize) -> Result<(), Fault> {
-    let mut link = i.saturating_add(HEADER);
+// The polynomial whose chain, of a record for each power at most, begins at a head.
+fn read_chain<F: Field>(card: &[u8], head: usize) -> Result<[u16; POWERS], Fault> {
+    let mut polynomial = [0; POWERS];
+    let mut link = head;
     let mut floor = 0;
     for _ in 0..=POWERS {
         let Some(place) = follow(card, link)? else {
-            return Ok(());
+            return Ok(polynomial);
         };
         let Record { power, code } = read_record::<F>(card, place, floor)?;
-        row.put(i, usize::from(power), code);
+        if let Some(coefficient) = polynomial.get_mut(usize::from(power)) {
+            *coefficient = code;
+        }
         floor = power.saturating_add(1);
         link = place.saturating_add(RECORD - 1);
     }
@@ -121,8 +124,8 @@ fn read_head<F: Field>(card: &[u8]) -> Result<usize, Fault> {
 pub fn meaning_of<F: Field>(card: &[u8]) -> Result<Row, Fault> {
     let n = read_head::<F>(card)?;
     let mut row = Row::zeros(n);
-    for i in 0..n {
-        walk_chain::<F>(card, &mut row, i)?;
+    for (polynomial, head) in row.polynomials.iter_mut().take(n).zip(HEADER..) {
+        *polynomial = read_chain::<F>(card, head)?;
     }
     Ok(row)
 }

@@ -1,5 +1,5 @@
-// Numbers that look random, the same at every run. The sequence of the tests (`random`) is another, of 16 bits a draw: the trials share
-// nothing with the tests, and how many answers they count depends on these draws.
+// Numbers that look random, the same at every run. The sequence of `random` is another, of 16 bits a draw; how many answers the trials
+// count, which is printed, depends on these draws.
 ghost use Rattle.std.specs.Prelude.{◌-◌, ◌≤◌};
 
 use fields::field::Field;
