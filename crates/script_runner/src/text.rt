@@ -99,6 +99,7 @@ impl<F: Field> fmt::Display for FrameText<'_, F> {
         let divisor = CodesText(self.frame.get(COLUMNS..).unwrap_or(&[]));
         write!(f, "divisor: {divisor}")?;
         for (j, column) in self.frame.chunks(GENERATORS).take(n).enumerate() {
+            // A proof does not know how long a part is.
             let components = ColumnText(column.get(..WIDTH * n).unwrap_or(column));
             write!(f, "\ncolumn {j}: {components}")?;
         }

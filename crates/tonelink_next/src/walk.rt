@@ -8,37 +8,23 @@ use std::alloc::Global;
 use tables::sizes::{COLUMNS, GENERATORS, WIDTH, WORK};
 use texts::polynomial::RowText;
 use tones::Tone;
+use tones::Tone::{T0, T1, T30};
 use walkthrough::card::Kept;
 use walkthrough::columns::{ColumnsText, spoiled};
 use walkthrough::designs::{DESIGN, DESIGN_BLOCK, DivisorText, SENT, SHARED, SHARED_BLOCK, SLIPS};
 use walkthrough::products::ProductsText;
 
-// Two columns of two components, each by its coefficients from power 0 up.
-type Columns = [[[Tone; 4]; 2]; 2];
+// A column of two components, each by its coefficients from power 0 up.
+type Column = [[Tone; 4]; 2];
 
-// The columns (1, 1 + 30s) and (1 + s, 30s^2), offered for (s^2, 1 + s).
-const GOOD: Columns = [
-    [
-        [Tone::T1, Tone::T0, Tone::T0, Tone::T0],
-        [Tone::T1, Tone::T30, Tone::T0, Tone::T0],
-    ],
-    [
-        [Tone::T1, Tone::T1, Tone::T0, Tone::T0],
-        [Tone::T0, Tone::T0, Tone::T30, Tone::T0],
-    ],
-];
+// The column (1, 1 + 30s).
+const FIRST: Column = [[T1, T0, T0, T0], [T1, T30, T0, T0]];
+
+// Columns offered for (s^2, 1 + s): the second is (1 + s, 30s^2).
+const GOOD: [Column; 2] = [FIRST, [[T1, T1, T0, T0], [T0, T0, T30, T0]]];
 
 // The same with the second column times s.
-const LONGER: Columns = [
-    [
-        [Tone::T1, Tone::T0, Tone::T0, Tone::T0],
-        [Tone::T1, Tone::T30, Tone::T0, Tone::T0],
-    ],
-    [
-        [Tone::T0, Tone::T1, Tone::T1, Tone::T0],
-        [Tone::T0, Tone::T0, Tone::T0, Tone::T30],
-    ],
-];
+const LONGER: [Column; 2] = [FIRST, [[T0, T1, T1, T0], [T0, T0, T0, T30]]];
 
 // Enters coefficients, then prints the generators.
 fn enter(rt: &HostRuntime, station: Station, entries: &[Entry]) -> anyhow::Result<Station> {
@@ -138,7 +124,7 @@ fn send(rt: &HostRuntime, station: Station) -> anyhow::Result<Station> {
 }
 
 // Writes the components of a column, one behind the other.
-fn write_column(table: &mut [Tone], column: &[[Tone; 4]]) {
+fn write_column(table: &mut [Tone], column: &Column) {
     for (place, component) in table.chunks_mut(WIDTH).zip(column.iter()) {
         if let Some(front) = place.get_mut(..component.len()) {
             front.copy_from_slice(component);
@@ -147,7 +133,7 @@ fn write_column(table: &mut [Tone], column: &[[Tone; 4]]) {
 }
 
 // An offered table.
-fn offered(heap: Global, columns: &Columns) -> anyhow::Result<Request<Tone>> {
+fn offered(heap: Global, columns: &[Column]) -> anyhow::Result<Request<Tone>> {
     let mut offered = vec![in heap; Tone::T0; COLUMNS]?;
     for (table, column) in offered.chunks_mut(GENERATORS).zip(columns.iter()) {
         write_column(table, column);

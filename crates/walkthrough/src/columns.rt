@@ -20,6 +20,7 @@ impl<F: Field> fmt::Display for ColumnsText<'_, F> {
         let degrees = self.framed.columns().to_le_bytes();
         let columns = self.frame.chunks(GENERATORS).zip(degrees.iter());
         for (j, (column, degree)) in columns.take(n).enumerate() {
+            // A proof does not know how long a part is.
             let row = RowText {
                 row: column.get(..WIDTH * n).unwrap_or(column),
             };
