@@ -97,7 +97,7 @@ impl From<CardFault> for Stopped {
     }
 }
 
-// Writes a refusal: its number, layer, place and reason. `RefusalText` has commas, which no line of a script's output has.
+// Writes a refusal: its number, layer, place and reason. `RefusalText` puts commas between these, and a script's line none.
 fn write_refusal<W: fmt::Write, E: Refusal + fmt::Display>(
     f: &mut fmt::Formatter<W>,
     fault: &E,
