@@ -53,7 +53,7 @@ pub fn add_multiple<F: Field>(target: &mut [F], power: usize, factor: F, source:
     // A proof knows nothing of what was written through `iter_mut` in a `zip`.
     for (k, y) in source.iter().enumerate() {
         let x = &mut target[power + k];
-        *x = x.add(factor.multiply(*y));
+        *x = x.add(y.multiply(factor));
     }
 }
 

@@ -14,7 +14,7 @@ loop-k-preserved g c =
     let read : at f.ops f.member c.loop-k.target j ≡ f.member (get_or c.loop-k.target j c.index-target-power.result) = at_read f.ops f.member c.loop-k.target j c.index-target-power.result (omega arith) in
     let source : at f.ops f.member s k ≡ f.member (get_or s k c.index-source-k.result) = at_read f.ops f.member s k c.index-source-k.result (omega arith) in
     let product : f.member c.multiply.result ≡ f.ops.product (f.member c.args.factor) (at f.ops f.member s k) =
-    c.multiply.ensures ∙ ap (f.ops.product (f.member c.args.factor)) (ap f.member c.index-source-k.is ∙ sym source) in
+    c.multiply.ensures ∙ ap (λ p. f.ops.product p (f.member c.args.factor)) (ap f.member c.index-source-k.is ∙ sym source) ∙ g.met.F.Field.laws.ring.product_comm (at f.ops f.member s k) (f.member c.args.factor) in
     written_more f.ops f.member (λ k. f.ops.sum (at f.ops f.member t (c.args.power + k)) (f.ops.product (f.member c.args.factor) (at f.ops f.member s k))) c.args.power k j t c.loop-k.target c.add.result
     c.loop-k.invariant (omega arith) (omega arith) (c.add.ensures ∙ ap₂ f.ops.sum (sym read ∙ c.loop-k.invariant.1 j (λ w. omega arith)) product)
 
