@@ -1,5 +1,6 @@
--- Columns taken one after the other. Main results: eliminated_pivotal and eliminated_spanned (what is known after one column more that is
--- pivotal, or is not), sum_of_column, place_or_none, relations_pivotal, relations_spanned.
+-- Columns taken one after the other. Main results: eliminated_none, eliminated_pivotal, eliminated_spanned, eliminated_skipped (what is
+-- known after no column, and after one column more that is pivotal, is not, or is known not to be), sum_of_column, place_or_none,
+-- relations_pivotal, relations_spanned.
 use Rattle.std.proofs.Common.{◌≡◌, ℕ, zero, suc, ◌<◌, ◌≤◌, true, false, ◌⊎◌, sym, ap, ◌∙◌, subst, ap₂, inl, inr, suc-le-suc, zero-le, le_refl, not-suc-le-zero, arith}
 use native.Mathlib.Decide.{ℕ_discrete, dec_lt}
 use Rattle.algebra.specs.Rings.{RingOps, RingLaws}
@@ -61,6 +62,17 @@ module _ {M : Type 0} (o : RingOps M) (L : RingLaws o) where
       record { factor = z.factor; inside = λ j l. tt; is = λ k l. q.is k l ∙ z.is k l }
 
   module _ (rows : ℕ) (W : ℕ → ℕ → M) where
+    pub echelon_none : (place : ℕ → ℕ) → Echelon o rows W 0 0 place
+    echelon_none place = record {
+      bound = zero-le;
+      within = λ t h. absurd (not-suc-le-zero h);
+      rising = λ s t h l. absurd (not-suc-le-zero l);
+      pivotal = λ t h. absurd (not-suc-le-zero h);
+      non_pivotal = λ j h. absurd (not-suc-le-zero h);
+      independent = λ x i z j h. absurd (not-suc-le-zero h);
+      spans = λ j h. absurd (not-suc-le-zero h);
+    }
+
     module _ (q rank : ℕ) (place : ℕ → ℕ) (X : Echelon o rows W q rank place) where
       below : (P : ℕ → Type 0) (n : ℕ) → ((j : ℕ) → j < n → P j) → P n → (j : ℕ) → j < suc n → P j
       below P n a b j h = elim (ℕ_discrete j n) [ yes e ↦ subst P (sym e) b | no d ↦ a j (omega arith) ]
@@ -76,6 +88,10 @@ module _ {M : Type 0} (o : RingOps M) (L : RingLaws o) where
         independent = X.independent;
         spans = below (λ j. Spanned o All rank rows (λ t. W (place t)) (W j)) q X.spans s;
       }
+
+      -- a column that is a sum of multiples of the columns before it
+      pub echelon_skipped : Spanned o All q rows W (W q) → Echelon o rows W (suc q) rank place
+      echelon_skipped s = echelon_spanned (span_trans rank q rows (λ t. W (place t)) W (W q) X.spans s)
 
       -- a column that is no sum of multiples of the pivotal columns; next has its place behind theirs
       pub echelon_pivotal : (next : ℕ → ℕ) → ((t : ℕ) → t < rank → next t ≡ place t) → next rank ≡ q → suc rank ≤ rows → Independent o All (suc rank) rows (λ t. W (next t)) → (Spanned o All rank rows (λ t. W (place t)) (W q) → ⊥) → Echelon o rows W (suc q) (suc rank) next
@@ -95,7 +111,14 @@ module _ {M : Type 0} (o : RingOps M) (L : RingLaws o) where
             (subst (λ i. Spanned o All (suc rank) rows (λ t. W (next t)) (W i)) new (span_member (suc rank) rows (λ t. W (next t)) rank (le_refl (suc rank))));
       }
 
+    pub eliminated_none : (e : ℕ → ℕ → M) (p place : ℕ → ℕ) → Eliminated o rows W 0 0 e p place
+    eliminated_none e p place = record { valid = λ t h. absurd (not-suc-le-zero h); turns = λ t h. absurd (not-suc-le-zero h); echelon = echelon_none place }
+
     module _ (q rank : ℕ) (e : ℕ → ℕ → M) (p place : ℕ → ℕ) (X : Eliminated o rows W q rank e p place) where
+      -- a column that is a sum of multiples of those before it need not be taken
+      pub eliminated_skipped : Spanned o All q rows W (W q) → Eliminated o rows W (suc q) rank e p place
+      eliminated_skipped s = record { valid = X.valid; turns = X.turns; echelon = echelon_skipped q rank place X.echelon s }
+
       -- column q was taken as c
       module _ (c : ℕ → M) (is : (r : ℕ) → r < rows → c r ≡ W q r) (f : ℕ → ℕ → M) (p' : ℕ → ℕ) (E : ℕ → M) where
         pub sum_of_column : Takes o rows rank e p c f p' E false → IsSum o rows rank (λ t. W (place t)) (W q) E
@@ -125,6 +148,9 @@ module _ {M : Type 0} (o : RingOps M) (L : RingLaws o) where
                 echelon = echelon_pivotal q rank place X.echelon next old new T.bound (R.independent_of_steps o L rows (suc rank) f p' (λ t. W (next t)) turns)
                     (λ s. T.judged (λ t. W (place t)) X.turns (record { factor = s.factor; inside = s.inside; is = λ r l. is r l ∙ s.is r l }));
               }
+
+    pub relations_none : (E : ℕ → ℕ → M) (place : ℕ → ℕ) → Relations o rows W E 0 0 place
+    relations_none E place = record { is = λ j h. absurd (not-suc-le-zero h); zeros = λ j t h. absurd (not-suc-le-zero h) }
 
     module _ (E D : ℕ → ℕ → M) (q rank : ℕ) (place : ℕ → ℕ) (X : Echelon o rows W q rank place) (same : (j : ℕ) → j < q → D j ≡ E j) (Y : Relations o rows W E q rank place) where
       pub relations_spanned : IsSum o rows rank (λ t. W (place t)) (W q) (D q) → Relations o rows W D (suc q) rank place

@@ -1,6 +1,6 @@
 -- Pairs are numbered: the low digit is the low part's number, the high digit the high part's. Assumes nothing.
 use Rattle.std.specs.Prelude.{◌≡◌, ℕ, zero, suc, ◌+◌, ◌*◌, ◌/◌, ◌%◌, ◌<◌, ◌≤◌}
-use Rattle.std.proofs.Common.{sym, ap, ap₂, ◌∙◌, mul-suc, mul-le-mul_left, mod-lt, mod-eq_of_lt, div-lt_iff_lt-mul, zero-add, arith}
+use Rattle.std.proofs.Common.{sym, ap, ap₂, ◌∙◌, mul-suc, mul-le-mul_left, mul-le-mul, mod-lt, mod-eq_of_lt, div-lt_iff_lt-mul, le-div_iff_mul-le, zero-add, arith}
 use Rattle.std.proofs.Math.Decide.{ℕ_discrete}
 use Rattle.std.proofs.Math.Nat.{div-add-mod, div-eq_of_lt, add-mul-div_left, add-mul-mod_self_left}
 use Rattle.algebra.specs.Rings.{RingOps, Numbering}
@@ -19,8 +19,21 @@ high_digit n u v h = add-mul-div_left u v (let p : zero < n = omega arith in p) 
 pub high_below : (n k : ℕ) → zero < n → k < n * n → k / n < n
 high_below n k p h = (div-lt_iff_lt-mul p).1 h
 
+pub high_past : (n k : ℕ) → zero < n → n ≤ k / n → n * n ≤ k
+high_past n k p h = (le-div_iff_mul-le p).0 h
+
 digits : (n k : ℕ) → k % n + n * (k / n) ≡ k
 digits n k = omega (arith, div-add-mod k n)
+
+-- a number whose two digits to the base n are u and v
+pub two_digits : (n s k u v : ℕ) → s ≡ n → k % s < n → u ≡ k % s → k / s < n → v ≡ k / s → (k < n * n) × (u + n * v ≡ k)
+two_digits n s k u v e lu is_u lv is_v =
+    let back : u + n * v ≡ k = ap₂ (λ (a b : ℕ). a + n * b) is_u is_v ∙ ap (λ (m : ℕ). k % m + n * (k / m)) e ∙ digits n k in
+    let below = digits_below n u v (omega arith) (omega arith) in
+    (omega arith, back)
+
+pub square_below : (n m : ℕ) → n ≤ m → n * n ≤ m * m
+square_below n m h = mul-le-mul h h
 
 module _ {M : Type 0} {o : RingOps M} {order : ℕ} {number : M → ℕ} (N : Numbering o order number) where
   positive : zero < order
