@@ -99,7 +99,8 @@ impl<'a, F: Field> Steps<'a, F> {
 }
 
 // Reduces every column of a matrix, whose columns stand one behind the other. Answers the rank, and writes the places of the pivotal
-// columns. The tables of the steps are lent apart, since there are no steps yet.
+// columns. The tables of the steps are lent apart, since there are no steps yet. No function of the library calls it: it is a public call,
+// which stays.
 pub fn eliminate<F: Field>(
     rows: usize,
     columns: usize,
