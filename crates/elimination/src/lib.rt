@@ -3,13 +3,14 @@
 
 ghost use Rattle.std.specs.Prelude.{◌≡◌, ℕ, ◌+◌, ◌*◌, ◌<◌, ◌≤◌, length};
 ghost use Rattle.tables.specs.Places.{at, Kept};
-ghost use Rattle.elimination.specs.Echelon.{Echelon, Relations, TakesNext, places_after};
-ghost use Rattle.elimination.specs.Steps.{reduced, column_at, entry_at, rank_after, AreSteps, Takes};
+ghost use Rattle.elimination.specs.Echelon.{Echelon, Relations, places_after};
+ghost use Rattle.elimination.specs.Steps.{reduced, column_at, entry_at, rank_after, AreSteps};
 
 use crate::step::{find_pivot, record_step, reduce};
 use fields::field::Field;
 
 pub mod step;
+mod take;
 
 // The steps found so far, in lent tables: the numbers of step t from rows * t on, and its pivot row at place t.
 #[derive(Drop)]
@@ -43,63 +44,11 @@ impl<'a, F: Field> Steps<'a, F> {
     {
         reduce(self.rows, self.rank, self.factors, self.pivots, column);
     }
-
-    // Takes one more column: reduces it by the steps found so far, answers whether it is pivotal, and if it is, records the step that turns
-    // it into the next unit vector.
-    pub fn take_column(&mut self, column: &mut [F]) -> bool
-        requires { length column.old ≡ self.old.rows }
-        ensures takes { Takes F.ops self.old.rows self.old.rank (column_at F.ops F.member self.old.rows self.old.factors.now) (entry_at self.old.pivots.now) (at F.ops F.member column.old) (column_at F.ops F.member self.old.rows self.new.factors.now) (entry_at self.new.pivots.now) (at F.ops F.member column.new) result }
-        ensures counted { (self.new.rows ≡ self.old.rows) × (self.new.rank ≡ rank_after self.old.rank result) }
-    {
-        self.bring(column);
-        let Some(pivot) = find_pivot(column, self.rank) else {
-            return false;
-        };
-        record_step(self.rows, self.rank, self.factors, column, pivot);
-        self.pivots[self.rank] = pivot.row;
-        self.rank += 1;
-        true
-    }
-
-    // Takes column q of a matrix, whose columns stand one behind the other.
-    pub fn take_column_of(&mut self, matrix: &mut [F], q: usize) -> bool
-        requires { self.old.rows * q + self.old.rows ≤ length matrix.old }
-        ensures takes { Takes F.ops self.old.rows self.old.rank (column_at F.ops F.member self.old.rows self.old.factors.now) (entry_at self.old.pivots.now) (column_at F.ops F.member self.old.rows matrix.old q) (column_at F.ops F.member self.old.rows self.new.factors.now) (entry_at self.new.pivots.now) (column_at F.ops F.member self.old.rows matrix.new q) result }
-        ensures counted { (self.new.rows ≡ self.old.rows) × (self.new.rank ≡ rank_after self.old.rank result) }
-        ensures others { Kept F.ops F.member (self.old.rows * q) self.old.rows matrix.old matrix.new }
-    {
-        let start = self.rows * q;
-        self.take_column(&mut matrix[start..start + self.rows])
-    }
-
-    // Takes a column of a matrix as column q of all columns; if it is pivotal, q is written behind the places of the pivotal columns before
-    // it. `eliminate` hands one number twice, but the call is public, and its callers may take a column from elsewhere.
-    pub fn take_next(
-        &mut self,
-        places: &mut [usize],
-        matrix: &mut [F],
-        column: usize,
-        q: usize,
-    ) -> bool
-        requires room { (self.old.rows ≤ length places.old) × (self.old.rows * column + self.old.rows ≤ length matrix.old) }
-        ensures valid { AreSteps F.ops self.old.rows (rank_after self.old.rank result) (column_at F.ops F.member self.old.rows self.new.factors.now) (entry_at self.new.pivots.now) }
-        ensures bound { rank_after self.old.rank result ≤ self.old.rows }
-        ensures placed { places.new ≡ places_after self.old.rank q places.old result }
-        ensures takes { TakesNext F.ops self.old.rows q self.old.rank (column_at F.ops F.member self.old.rows self.old.factors.now) (entry_at self.old.pivots.now) places.old (column_at F.ops F.member self.old.rows matrix.old column) (column_at F.ops F.member self.old.rows self.new.factors.now) (entry_at self.new.pivots.now) (column_at F.ops F.member self.old.rows matrix.new column) result }
-        ensures counted { (self.new.rows ≡ self.old.rows) × (self.new.rank ≡ rank_after self.old.rank result) }
-        ensures others { Kept F.ops F.member (self.old.rows * column) self.old.rows matrix.old matrix.new }
-    {
-        let rank = self.rank;
-        let pivotal = self.take_column_of(matrix, column);
-        if pivotal {
-            places[rank] = q;
-        }
-        pivotal
-    }
 }
 
 // Reduces every column of a matrix, whose columns stand one behind the other. Answers the rank, and writes the places of the pivotal
-// columns. The tables of the steps are lent apart, since there are no steps yet.
+// columns. The tables of the steps are lent apart, since there are no steps yet. No function of the library calls it: it is a public call,
+// which stays.
 pub fn eliminate<F: Field>(
     rows: usize,
     columns: usize,

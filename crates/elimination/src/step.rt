@@ -1,4 +1,4 @@
-// One step of elimination on a column.
+// One step of elimination on a column. `reduce` and `record_step` take the fields of `Steps` one by one: both are public, and stay.
 ghost use Rattle.std.specs.Prelude.{◌≡◌, ℕ, ◌+◌, ◌*◌, ◌<◌, ◌≤◌, length, MatchOption};
 ghost use Rattle.tables.specs.Places.{at};
 ghost use Rattle.elimination.specs.Steps.{step as after_step, reduced, column_at, entry_at, write, AreSteps, IsPivot};

@@ -13,9 +13,9 @@ use polynomials::{degree, divide_exactly};
 use tables::cells::inverse_at;
 use tables::clear;
 use tables::rows::scale;
-use tables::sizes::{GENERATORS, MAX_COUNT, WIDTH, WORK};
+use tables::sizes::{GENERATORS, HIGHEST, MAX_COUNT, WIDTH, WORK};
 
-// Where the divided row begins in the work table, which it ends.
+// Where the divided row begins: it is the last part of the work table.
 pub const ROW: usize = WORK - GENERATORS;
 
 // Where the divisor stands in the work table: before the divided row.
@@ -28,7 +28,7 @@ pub struct Degrees {
     pub row: usize,
 }
 
-// Leaves where zero stood a greatest common divisor of the first n generators.
+// Leaves in `divisor`, which was zero, a greatest common divisor of the first n generators, and zero in `spare`.
 fn gather<F: Field>(n: usize, generators: &[F], spare: &mut [F], divisor: &mut [F])
     requires room { (WIDTH * n ≤ length generators.now) × ((length spare.old ≡ WIDTH) × (length divisor.old ≡ WIDTH)) }
     requires cleared { (at F.ops F.member spare.old ≡ (series F.ops).zero) × (at F.ops F.member divisor.old ≡ (series F.ops).zero) }
@@ -82,7 +82,7 @@ fn divide_row<F: Field>(
 pub fn row_degree<F: Field>(n: usize, row: &[F]) -> usize
     requires { WIDTH * n ≤ length row.now }
     ensures value { Highest F.ops n (row_in F.ops F.member row.now 0) result }
-    ensures bound { result ≤ 16 }
+    ensures bound { result ≤ HIGHEST }
 {
     let parts = row[..WIDTH * n].chunks_exact(WIDTH);
     parts

@@ -12,7 +12,8 @@ use fields::field::Field;
 
 pub mod quadratic;
 
-// The code k is the variant Nk.
+// The code k is the variant Nk. The size stays a number: it is wanted as usize, u16 and u32, and a name would need a conversion at each
+// use.
 #[derive(Clone, Copy, PartialEq, Eq, Debug)]
 pub enum Nibble {
     N0,
@@ -85,7 +86,7 @@ fn product_number(left: u16, right: u16) -> u16
     requires { (left < 16) × (right < 16) }
     ensures { result ≡ entry left right }
 {
-    PRODUCTS[left as usize][right as usize]
+    PRODUCTS[usize::from(left)][usize::from(right)]
 }
 
 // The code of an inverse. A function shared with tones would be handed this table, and would be no shorter.
@@ -93,7 +94,7 @@ fn inverse_number(number: u16) -> u16
     requires { number < 16 }
     ensures { result ≡ get_or inverses number 0 }
 {
-    INVERSES[number as usize]
+    INVERSES[usize::from(number)]
 }
 
 impl From<Nibble> for u16 {
@@ -163,6 +164,7 @@ impl Field for Nibble {
         self.into()
     }
 
+    // The cast is proved to lose nothing; `try_from` would need an `unwrap`.
     fn element(code: u32) -> Result<Nibble, FieldFault> {
         if code < 16 {
             Ok(low_bits(code as u16))

@@ -23,7 +23,7 @@ fn subtract<F: Field>(x: F, y: F) -> F
     x.add(y.negate())
 }
 
-// The divisor of the inverse.
+// The norm: the conjugate divided by it is the inverse.
 fn divisor<F: Quadratic>(x: Pair<F>) -> F
     ensures { F.Field.member result ≡ norm F.Field.ops (F.Field.member F.Quadratic.linear) (F.Field.member F.Quadratic.constant) (pair (F.Field.member x.low) (F.Field.member x.high)) }
 {
@@ -112,8 +112,9 @@ impl<F: Quadratic> Field for Pair<F> {
         F::size() * F::size()
     }
 
+    // The cast is proved to lose nothing; `try_from` would need an `unwrap`.
     fn code(self) -> u16 {
-        (self.low.code() as u32 + F::size() * self.high.code() as u32) as u16
+        (u32::from(self.low.code()) + F::size() * u32::from(self.high.code())) as u16
     }
 
     fn element(code: u32) -> Result<Pair<F>, FieldFault> {

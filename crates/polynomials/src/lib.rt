@@ -28,8 +28,8 @@ pub fn multiply_into<F: Field>(target: &mut [F], left: &[F], right: &[F])
     }
 }
 
-// A divisor and its degree are two parameters: a struct could keep the fact that joins them only as a mere truth, and each proof would have
-// to get the degree back out of it.
+// In `cancel`, `reduce`, `divide` and `divide_exactly` a divisor and its degree are two parameters: a struct could keep the fact that joins
+// them only as a mere truth, and each proof would have to get the degree back out of it.
 
 // Takes s^power times a multiple of the divisor, of degree e, from the target, so that the coefficient of s^(power + e) becomes zero, and
 // answers the factor of that multiple. `inverse` is the inverse of the divisor's leading coefficient.

@@ -1,4 +1,4 @@
-// Single places of a table.
+// Single places of a table. `get` and `put` do what an index does, but the calls are public, with edits of their own, and stay.
 ghost use Rattle.std.specs.Prelude.{◌≡◌, ◌<◌, length};
 ghost use Rattle.tables.specs.Places.{at, Kept};
 

@@ -6,7 +6,8 @@ ghost use Rattle.tables.specs.Places.{at, Apart, Kept, poly_at};
 use crate::clear;
 use fields::field::Field;
 
-// `clear_part`, `copy_from` and `copy` name a part by numbers. A slice's own methods do the same, but these calls are public, so they stay.
+// `clear_part`, `copy_from` and `copy` name a part by numbers, and `swap` forwards. A slice's own methods do the same, but these calls are
+// public, with edits of their own, and stay.
 
 // Sets a part to zero.
 pub fn clear_part<F: Field>(table: &mut [F], base: usize, width: usize)

@@ -1,11 +1,16 @@
-// How long the lent tables are, and the rows in them.
+// How long the lent tables are, and the rows in them. Tables are lent as slices, and their lengths are clauses: the public calls take
+// slices of any length, and ask for it.
 
 // How many generators a design has at most, and columns a frame. Below drafts, whose type keeps the limits of their number, it is a plain
-// number with its limits in clauses: with a type of its own, each clause on n would say `.value`, and no clause would go.
+// number with its limits in clauses: with a type of its own each clause on n would say `.value`, and only the limits in eight contracts
+// would go.
 pub const MAX_COUNT: usize = 8;
 
 // How many coefficients a polynomial has: powers 0 to 16.
 pub const WIDTH: usize = 17;
+
+// The highest power of a polynomial.
+pub const HIGHEST: usize = WIDTH - 1;
 
 // How many coefficients the product of two polynomials has.
 pub const PRODUCT: usize = 2 * WIDTH - 1;

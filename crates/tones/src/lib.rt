@@ -14,7 +14,8 @@ pub mod quadratic;
 // The tones' kind on cards.
 const KIND: u8 = 1;
 
-// The residue k is the variant Tk.
+// The residue k is the variant Tk. The size stays a number: it is wanted as usize, u16 and u32, and a name would need a conversion at each
+// use.
 #[derive(Clone, Copy, PartialEq, Eq, Debug)]
 pub enum Tone {
     T0,
@@ -118,7 +119,7 @@ fn inverse_number(number: u16) -> u16
     requires { number < 31 }
     ensures { result ≡ get_or inverses number 0 }
 {
-    INVERSES[number as usize]
+    INVERSES[usize::from(number)]
 }
 
 impl From<Tone> for u16 {
@@ -188,6 +189,7 @@ impl Field for Tone {
         self.into()
     }
 
+    // The cast is proved to lose nothing; `try_from` would need an `unwrap`.
     fn element(code: u32) -> Result<Tone, FieldFault> {
         if code < 31 {
             Ok(residue(code as u16))
