@@ -17,6 +17,8 @@ use tables::sizes::{FRAME, GENERATORS, MAX_COUNT, WORK};
 pub mod packing;
 
 // What is known of a frame: the degree of the divided generators, that of the divisor, and those of the columns, packed.
+// Packed, since a framed design gives them to callers as one number. The first two are the fields of `Degrees` once more: the promises of
+// the public calls name them `x.degree` and `x.divisor`.
 #[derive(Clone, Copy, PartialEq, Eq, Debug)]
 pub struct Numbers {
     pub degree: usize,

@@ -3,7 +3,7 @@ ghost use Rattle.std.specs.Prelude.{◌≡◌, ℕ, ◌-◌, ◌<◌, ◌≤◌}
 ghost use Rattle.elimination.specs.Steps.{entry_at};
 ghost use Rattle.frames.specs.Rows.{Highest};
 ghost use Rattle.framing.specs.Framing.{column_in};
-ghost use Rattle.tables.specs.declared.sizes.TheConstants.{MAX_COUNT};
+ghost use Rattle.tables.specs.declared.sizes.TheConstants.{HIGHEST, MAX_COUNT};
 ghost use Rattle.judging.specs.Answers.{Tells};
 ghost use Rattle.judging.specs.Columns.{check_degree, InOrder, NoHigher};
 
@@ -13,11 +13,12 @@ use frames::row::row_degree;
 use tables::sizes::MAX_COUNT;
 
 // The columns of an offer, with their degrees: of one that is zero it is 0, as `Highest` defines the degree of every row.
+// The degrees are an array of fixed size, of which n are used: no memory is allocated below `runs`.
 #[derive(Drop)]
 pub(crate) struct Graded<'a, F: Field> {
     pub(crate) offer: &'a Offer<'a, F>,
     pub(crate) degrees: [usize; MAX_COUNT],
-    ghost bound: { (j : ℕ) → j < offer.now.n → entry_at degrees j ≤ 16 },
+    ghost bound: { (j : ℕ) → j < offer.now.n → entry_at degrees j ≤ HIGHEST },
 }
 
 impl<'a, F: Field> Graded<'a, F> {

@@ -42,7 +42,7 @@ impl<'a, F: Field> Offer<'a, F> {
     }
 
     // The lowest check column that the generators do not send to zero.
-    // By a `for`: without the clause of `product_is` once more, at a closure in `find`, the proof does not close.
+    // By a `for`: a closure in `find` would need the clause of `product_is` written out once more.
     pub(crate) fn lowest_no_syzygy(&self) -> Option<usize>
         ensures { MatchOption result (AllSyzygies F.ops self.now.n (generator_in F.ops F.member self.now.generators.now) (column_in F.ops F.member self.now.offered.now)) (LowestNoSyzygy F.ops self.now.n (generator_in F.ops F.member self.now.generators.now) (column_in F.ops F.member self.now.offered.now)) }
     {

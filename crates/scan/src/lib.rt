@@ -15,7 +15,7 @@ use fields::field::Field;
 use frames::row::{DIVISOR, ROW};
 use tables::clear;
 use tables::rows::copy_from;
-use tables::sizes::{COLUMNS, FRAME, MAX_COUNT, PRODUCT, WIDTH, WORK};
+use tables::sizes::{COLUMNS, FRAME, HIGHEST, MAX_COUNT, PRODUCT, WIDTH, WORK};
 
 mod columns;
 mod lists;
@@ -48,7 +48,7 @@ fn scan<F: Field>(row: Row<'_, F>, factors: &mut [F], column: &mut [F], frame: &
 // coefficient of s^k of component i of column j at 136 j + 17 i + k, the divisor behind the columns, and zero elsewhere. The work table is
 // left with any contents.
 pub fn write_frame<F: Field>(n: usize, d: usize, work: &mut [F], frame: &mut [F])
-    requires sized { (0 < n) × ((n ≤ MAX_COUNT) × (d ≤ 16)) }
+    requires sized { (0 < n) × ((n ≤ MAX_COUNT) × (d ≤ HIGHEST)) }
     requires room { (length work.old ≡ WORK) × (length frame.old ≡ FRAME) }
     requires degree { VectorDegree F.ops n (quotient_in F.ops F.member work.old) d }
     requires coprime { Combination F.ops n (quotient_in F.ops F.member work.old) (series F.ops).one }

@@ -2,7 +2,7 @@
 ghost use Rattle.std.specs.Prelude.{◌≡◌, ◌<◌, ◌≤◌, length};
 ghost use Rattle.algebra.specs.Divisors.{VectorDegree};
 ghost use Rattle.frames.specs.Rows.{generator_in};
-ghost use Rattle.tables.specs.declared.sizes.TheConstants.{GENERATORS, MAX_COUNT};
+ghost use Rattle.tables.specs.declared.sizes.TheConstants.{GENERATORS, HIGHEST, MAX_COUNT};
 
 use fields::field::Field;
 
@@ -13,7 +13,7 @@ pub struct Row<'a, F: Field> {
     pub n: usize,
     pub d: usize,
     pub entries: &'a [F],
-    pub ghost sized: { (0 < n) × ((n ≤ MAX_COUNT) × (d ≤ 16)) },
+    pub ghost sized: { (0 < n) × ((n ≤ MAX_COUNT) × (d ≤ HIGHEST)) },
     pub ghost long: { length entries.now ≡ GENERATORS },
     pub ghost degree: { ∥ VectorDegree F.ops n (generator_in F.ops F.member entries.now) d ∥₁ },
 }
