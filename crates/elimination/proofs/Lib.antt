@@ -7,4 +7,4 @@ pub mod Echelons
 pub mod Next
 pub mod Whole
 pub mod Valid
-pub mod Skipped
+pub mod Found

@@ -50,12 +50,8 @@ pub struct Pivot<F: Field> {
 pub fn find_pivot<F: Field>(column: &[F], rank: usize) -> Option<Pivot<F>>
     ensures { MatchOption result ((k : ℕ) → rank ≤ k → at F.ops F.member column.now k ≡ F.ops.zero) (λ p. IsPivot F.ops (length column.now) rank (at F.ops F.member column.now) p.row (F.member p.inverse)) }
 {
-    for (row, x) in column.iter().enumerate().skip(rank) {
-        if let Some(inverse) = x.inverse() {
-            return Some(Pivot { row, inverse });
-        }
-    }
-    None
+    let mut entries = column.iter().enumerate().skip(rank);
+    entries.find_map(|(row, x)| x.inverse().map(|inverse| Pivot { row, inverse }))
 }
 
 // Writes the numbers of the step of a reduced column and its pivot behind those of the first steps.

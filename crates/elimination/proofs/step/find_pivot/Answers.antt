@@ -1,45 +1,19 @@
-use Rattle.std.proofs.Common.{◌+◌, length, ap, ◌∙◌, arith}
-use Rattle.std.proofs.lemmas.Iterator.{YieldsList-from_slice}
-use Rattle.std.proofs.lemmas.Iterator.Adapters.{YieldsList-from_skip}
-use Rattle.std.proofs.lemmas.Iterator.Consumers.{YieldsList-from_enumerate, YieldsList-turn, YieldsList-end}
-use Rattle.std.proofs.lemmas.List.{length_push}
-use native.Mathlib.Decide.{dec_lt, ℕ_discrete}
-use Rattle.tables.specs.Places.{at}
-use Rattle.tables.proofs.Places.{at_past}
-use Rattle.elimination.proofs.Skipped.{skipped_is, skipped_all}
+use Rattle.std.proofs.Common.{subst, refl, rules, List, Iter, Bor}
+use borrow.Author.Tests.{tests}
+use Rattle.std.specs.Iterator.Runs.{ItemsMapTo}
+use Rattle.elimination.proofs.Found.{pivot_found}
 use Rattle.elimination.proofs.step.find_pivot.Goals as goal
-
-pub loop-row-preserved : goal.loop-row-preserved
-loop-row-preserved g c =
-    let f = g.F.Field in
-    let chain = YieldsList-from_skip c.args.rank (YieldsList-from_enumerate (YieldsList-from_slice c.args.column.now cc) cc) cc in
-    let turn = YieldsList-turn chain c.loop-row.yielded _ c.loop-row.yielded_by _ _ (c.in-Some.row, c.in-Some.x) c.in-Some.is c.next.ensures.steps in
-    let here = skipped_is f.ops f.member c.args.column.now c.args.rank (length c.loop-row.yielded) (c.in-Some.row, c.in-Some.x.now) turn in
-    λ k low h. elim (ℕ_discrete k c.in-Some.row) [
-      | yes e ↦ ap (at f.ops f.member c.args.column.now) e ∙ here.1.1 ∙ c.in_default.ensures
-      | no n ↦ c.loop-row.invariant k low (omega (arith, here.0, length_push c.loop-row.yielded (c.in-Some.row, c.in-Some.x)))
-    ]
-
-pub returns-in-Some-inverse : goal.returns-in-Some-inverse
-returns-in-Some-inverse g c =
-    let f = g.F.Field in
-    let chain = YieldsList-from_skip c.args.rank (YieldsList-from_enumerate (YieldsList-from_slice c.args.column.now cc) cc) cc in
-    let turn = YieldsList-turn chain c.loop-row.yielded _ c.loop-row.yielded_by _ _ (c.in-Some.row, c.in-Some.x) c.in-Some.is c.next.ensures.steps in
-    let here = skipped_is f.ops f.member c.args.column.now c.args.rank (length c.loop-row.yielded) (c.in-Some.row, c.in-Some.x.now) turn in
-    record {
-      low = omega (arith, here.0);
-      within = here.1.0;
-      inverse = ap (λ x. f.ops.product x (f.member c.in-Some-inverse.inverse)) here.1.1 ∙ c.in-Some-inverse.ensures;
-      zeros = λ k low h. c.loop-row.invariant k low (omega (arith, here.0));
-    }
 
 pub returns : goal.returns
 returns g c =
     let f = g.F.Field in
-    let chain = YieldsList-from_skip c.args.rank (YieldsList-from_enumerate (YieldsList-from_slice c.args.column.now cc) cc) cc in
-    let end = YieldsList-end chain c.loop-row.yielded _ c.loop-row.yielded_by _ _ c.in-None.is c.next.ensures.steps in
-    let all = skipped_all f.ops f.member c.args.column.now c.args.rank (length c.loop-row.yielded) end.1 in
-    λ k low. elim (dec_lt k (c.args.rank + length c.loop-row.yielded)) [
-      | yes h ↦ c.loop-row.invariant k low h
-      | no n ↦ at_past f.ops f.member c.args.column.now k (omega arith)
-    ]
+    let run = c.find_map.ensures.runs in
+    let p = run.0 in
+    let skip = c.skip-entries.ensures.runs p p.seen run.1 in
+    let q = skip.0 in
+    let count = c.enumerate.ensures.runs q q.seen skip.1 in
+    let r = count.1.0 in
+    let before = subst (λ (s : Iter g.row.F.Denot). ItemsMapTo r (λ (y : Bor g.row.F.Denot). y.now) s.rest.now) count.1.1 (c.iter.ensures.runs r r.seen) in
+    let items = subst (λ (xs : List g.row.F.Denot). ItemsMapTo r (λ (y : Bor g.row.F.Denot). y.now) xs) c.iter.ensures.rest before in
+    pivot_found f.ops f.member (λ (y : Bor g.row.F.Denot). y.now) (λ y. y.row) (λ y. f.member y.inverse) _ _ _ c.args.column.now c.args.rank p q r c.find_map.result run.2
+    skip.2 count.0 count.1.2.0 count.1.2.1 items (λ a r h called. refl) (λ y x called. search (rules, tests)) (λ x called. search (rules, tests))
