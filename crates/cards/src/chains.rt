@@ -1,5 +1,6 @@
 // The heads and records of the generators, in a buffer.
 // Here and in `write`, each cast to u8 is proved to lose nothing; `u8::try_from` would need an `unwrap` beside it.
+// The number n stands beside the whole table: contracts name the caller's table, as in `frames::row`.
 ghost use Rattle.std.specs.Prelude.{◌≡◌, ℕ, ◌+◌, ◌*◌, ◌<◌, ◌≤◌, List, map, length, unwrap_or};
 ghost use Rattle.fields.specs.Elements.{code_of};
 ghost use Rattle.cards.specs.Cards.{Term, terms, generators, records, heads, chains, term_count, link as links};
@@ -78,6 +79,6 @@ pub fn write_chains<F: Field>(n: usize, table: &[F], buffer: &mut [u8])
 {
     let mut next = 1;
     for row in table[..WIDTH * n].chunks_exact(WIDTH) {
-        next = write_chain(row, next, buffer, n + RECORD * next - 1);
+        next = write_chain(row, next, buffer, HEADER + n + RECORD * (next - 1));
     }
 }

@@ -7,6 +7,9 @@ pub const MAX_COUNT: usize = 8;
 // How many coefficients a polynomial has: powers 0 to 16.
 pub const WIDTH: usize = 17;
 
+// The highest power of a polynomial.
+pub const HIGHEST: usize = WIDTH - 1;
+
 // How many coefficients the product of two polynomials has.
 pub const PRODUCT: usize = 2 * WIDTH - 1;
 
