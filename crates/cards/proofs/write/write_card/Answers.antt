@@ -21,7 +21,7 @@ returns g c =
     counted
     ∙ ap (λ b. over (3 + n) (chains 1 gs) (set b 2 m)) c.write_heads-m.ensures.after
     ∙ card_over c.kind.result n m gs zeros (length_generators n codes) c.write_heads-m.ensures.count
-    (c.fill.ensures ∙ ap (λ k. replicate k 0) c.if-buffer-ne-CARD.false) (omega (arith, c.write_heads-m.ensures.bound, c.count-n.ensures, c.args.draft.now)) in
+    (c.fill.ensures.after (λ y e. e) ∙ ap (λ k. replicate k 0) c.if-buffer-ne-CARD.false) (omega (arith, c.write_heads-m.ensures.bound, c.count-n.ensures, c.args.draft.now)) in
     let long : 3 + n + 4 * m ≡ length (card f.tag (generators c.args.draft.now.n codes)) =
     (omega (arith, length_generators n codes, c.write_heads-m.ensures.count)) ∙ sym (length_card f.tag gs) ∙ ap (λ k. length (card f.tag (generators k codes))) c.count-n.ensures in
     let whole : c.write_chains.new.buffer ≡ card f.tag (generators c.args.draft.now.n codes) ++ replicate (555 - (3 + n + 4 * m)) 0 =
