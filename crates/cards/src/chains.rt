@@ -34,25 +34,22 @@ fn write_chain<F: Field>(row: &[F], first: usize, buffer: &mut [u8], place: usiz
     ensures next { result ≡ first + length (terms 0 (map (code_of F.number F.member) row.now)) }
     ensures after { buffer.new ≡ over place (records first (terms 0 (map (code_of F.number F.member) row.now))) buffer.old }
 {
-    // Each record points to the one after it, so what is left is counted down.
-    let mut left = count_terms(row);
-    let mut next = first;
-    let mut at = place;
+    // The records are counted by hand: for a loop over `filter` and a second `enumerate`, the check refuses the proof files that it writes.
+    let count = count_terms(row);
+    let mut k = 0;
     for (power, x) in row.iter().enumerate() {
         let code = x.code();
         if code != 0 {
-            left -= 1;
-            next += 1;
             let record = Record {
                 power: power as u8,
                 code,
-                next: link(next, left),
+                next: link(first + k + 1, count - k - 1),
             };
-            write_record(buffer, at, record);
-            at += RECORD;
+            write_record(buffer, place + RECORD * k, record);
+            k += 1;
         }
     }
-    next
+    first + count
 }
 
 // Writes the heads of the first n generators, 0 for one that is zero, and answers how many terms these have in all.
