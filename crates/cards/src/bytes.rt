@@ -1,15 +1,8 @@
-// Clearing a buffer, and writing one record into it.
-ghost use Rattle.std.specs.Prelude.{◌≡◌, ◌+◌, ◌/◌, ◌%◌, ◌≤◌, [], ◌∷◌, length, replicate, unwrap_or};
+// Writing one record into a buffer.
+ghost use Rattle.std.specs.Prelude.{◌≡◌, ◌+◌, ◌/◌, ◌%◌, ◌≤◌, [], ◌∷◌, length, unwrap_or};
 ghost use Rattle.cards.specs.Overwriting.{over};
 
 use crate::sizes::RECORD;
-
-// Sets every byte to zero.
-pub fn clear(buffer: &mut [u8])
-    ensures { buffer.new ≡ replicate (length buffer.old) 0 }
-{
-    buffer.fill(0);
-}
 
 // A record: a power, the code at it, and the number of the record after it, if there is one.
 #[derive(Clone, Copy)]

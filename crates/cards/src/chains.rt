@@ -1,5 +1,6 @@
 // The heads and records of the generators, in a buffer.
 // Here and in `write`, each cast to u8 is proved to lose nothing; `u8::try_from` would need an `unwrap` beside it.
+// The number n stands beside the whole table: contracts name the caller's table, as in `frames::row`.
 ghost use Rattle.std.specs.Prelude.{◌≡◌, ℕ, ◌+◌, ◌*◌, ◌<◌, ◌≤◌, List, map, length, unwrap_or};
 ghost use Rattle.fields.specs.Elements.{code_of};
 ghost use Rattle.cards.specs.Cards.{Term, terms, generators, records, heads, chains, term_count, link as links};
@@ -33,25 +34,22 @@ fn write_chain<F: Field>(row: &[F], first: usize, buffer: &mut [u8], place: usiz
     ensures next { result ≡ first + length (terms 0 (map (code_of F.number F.member) row.now)) }
     ensures after { buffer.new ≡ over place (records first (terms 0 (map (code_of F.number F.member) row.now))) buffer.old }
 {
-    // Each record points to the one after it, so what is left is counted down.
-    let mut left = count_terms(row);
-    let mut next = first;
-    let mut at = place;
+    // The records are counted by hand: for a loop over `filter` and a second `enumerate`, the check refuses the proof files that it writes.
+    let count = count_terms(row);
+    let mut k = 0;
     for (power, x) in row.iter().enumerate() {
         let code = x.code();
         if code != 0 {
-            left -= 1;
-            next += 1;
             let record = Record {
                 power: power as u8,
                 code,
-                next: link(next, left),
+                next: link(first + k + 1, count - k - 1),
             };
-            write_record(buffer, at, record);
-            at += RECORD;
+            write_record(buffer, place + RECORD * k, record);
+            k += 1;
         }
     }
-    next
+    first + count
 }
 
 // Writes the heads of the first n generators, 0 for one that is zero, and answers how many terms these have in all.
@@ -78,6 +76,6 @@ pub fn write_chains<F: Field>(n: usize, table: &[F], buffer: &mut [u8])
 {
     let mut next = 1;
     for row in table[..WIDTH * n].chunks_exact(WIDTH) {
-        next = write_chain(row, next, buffer, n + RECORD * next - 1);
+        next = write_chain(row, next, buffer, HEADER + n + RECORD * (next - 1));
     }
 }

@@ -8,6 +8,7 @@ use fields::fault::{FieldFault, Layer, Refusal};
 use std::error::Error;
 use std::fmt;
 
+// Questions 2 and 4 are the design's too; asked of a card, they carry the card's layer.
 #[derive(Clone, Copy, PartialEq, Eq, Debug)]
 pub enum CardFault {
     // A rule of the design: a table has not its length.
@@ -37,7 +38,7 @@ pub struct PlacedFault {
     pub place: usize,
 }
 
-// Case by case: each refusal has a number and a text of its own.
+// Arm by arm, here and in `Display`: each refusal has a number and a text of its own, and both are printed.
 impl Refusal for CardFault {
     ghost numbered = { card_number };
 

@@ -3,7 +3,7 @@ ghost use Rattle.std.specs.Prelude.{◌≡◌, ℕ, ◌+◌, ◌*◌, ◌<◌, �
 ghost use Rattle.std.specs.Result.{result_err};
 ghost use Rattle.fields.specs.Questions.{first_no};
 ghost use Rattle.tables.specs.Places.{at, Cleared};
-ghost use Rattle.tables.specs.declared.sizes.TheConstants.{MAX_COUNT};
+ghost use Rattle.tables.specs.declared.sizes.TheConstants.{HIGHEST, MAX_COUNT};
 ghost use Rattle.cards.specs.declared.sizes.TheConstants.{HEADER, RECORD};
 ghost use Rattle.cards.specs.declared.fault.CardFault.TheVariants.{NoSuchRecord};
 ghost use Rattle.cards.specs.Cards.{Term};
@@ -41,7 +41,7 @@ impl<'a> Card<'a> {
         ensures room { OnOk result (long ≡ GENERATORS) }
     {
         if long != GENERATORS {
-            return Err(CardFault::Design(DesignFault::TableLength));
+            return Err(DesignFault::TableLength.into());
         }
         let [kind, n, m, ..] = bytes else {
             return Err(CardFault::Length);
@@ -92,7 +92,7 @@ impl<'a> Card<'a> {
         requires { start + RECORD ≤ length self.now.bytes.now }
         ensures answer { result_err result ≡ first_no (record_questions F.order self.now.bytes.now floor start) }
         ensures value { IfOk result (λ x. (x.power ≡ byte self.now.bytes.now start) × (F.number (F.member x.element) ≡ code_at self.now.bytes.now (start + 1))) }
-        ensures low { IfOk result (λ x. x.power ≤ 16) }
+        ensures low { IfOk result (λ x. x.power ≤ HIGHEST) }
     {
         let power = usize::from(self.bytes[start]);
         if power >= WIDTH {
@@ -127,7 +127,7 @@ fn read_chain<F: Field>(
         return Ok(());
     };
     let term = card.coefficient::<F>(start, floor)?;
-    read_chain(card, start + 3, term.power + 1, row)?;
+    read_chain(card, start + (RECORD - 1), term.power + 1, row)?;
     row[term.power] = term.element;
     Ok(())
 }

@@ -4,7 +4,6 @@ ghost use Rattle.fields.specs.Elements.{code_of};
 ghost use Rattle.cards.specs.RoundTrip.{ReadsBack};
 ghost use Rattle.cards.specs.Writing.{Writes};
 
-use crate::bytes::clear;
 use crate::chains::{write_chains, write_heads};
 use crate::sizes::{CARD, HEADER, RECORD};
 use design::draft::Draft;
@@ -26,7 +25,7 @@ pub fn write_card<F: Field>(
         return Err(DesignFault::TableLength);
     }
     let n = draft.count();
-    clear(buffer);
+    buffer.fill(0);
     buffer[0] = F::kind();
     buffer[1] = n as u8;
     let m = write_heads(n, generators, buffer);

@@ -1,5 +1,6 @@
 // A draft: the generators of a design while they are entered.
 ghost use Rattle.std.specs.Prelude.{◌≡◌, ◌≤◌};
+ghost use Rattle.tables.specs.declared.sizes.TheConstants.{MAX_COUNT};
 
 mod calls;
 
@@ -8,7 +9,7 @@ mod calls;
 pub struct Draft {
     n: usize,
     ghost low: { 2 ≤ n },
-    ghost high: { n ≤ 8 },
+    ghost high: { n ≤ MAX_COUNT },
 }
 
 impl Draft {
@@ -21,7 +22,7 @@ impl Draft {
 
     // The draft of n generators.
     pub(crate) fn of(n: usize) -> Draft
-        requires { (2 ≤ n) × (n ≤ 8) }
+        requires { (2 ≤ n) × (n ≤ MAX_COUNT) }
         ensures { result.n ≡ n }
     {
         Draft { n }

@@ -1,5 +1,6 @@
 // A framed design: what is known of a design once its frame stands in the caller's table.
 ghost use Rattle.std.specs.Prelude.{◌≡◌, ◌+◌, ◌*◌, ◌/◌, ◌%◌, ◌^◌, ◌≤◌};
+ghost use Rattle.tables.specs.declared.sizes.TheConstants.{HIGHEST, MAX_COUNT};
 
 use crate::draft::Draft;
 use framing::Numbers;
@@ -9,6 +10,7 @@ mod frame;
 mod offer;
 
 // Numbers only, made by a granted call, and moved, never copied.
+// The fields of `Numbers` stand here once more: the promises of the public calls name them one by one.
 #[derive(Drop)]
 pub struct Framed {
     // The number of generators.
@@ -20,14 +22,14 @@ pub struct Framed {
     // The degrees of the columns: that of column j in bits 8 j to 8 j + 7, zero from n on. One number, since callers are given it as one.
     columns: u64,
     ghost low: { 2 ≤ n },
-    ghost high: { n ≤ 8 },
-    ghost within: { degree + divisor ≤ 16 },
+    ghost high: { n ≤ MAX_COUNT },
+    ghost within: { degree + divisor ≤ HIGHEST },
 }
 
 impl Framed {
     // The framed design of a draft with the numbers of its frame.
     pub(crate) fn of(draft: Draft, numbers: Numbers) -> Framed
-        requires { numbers.degree + numbers.divisor ≤ 16 }
+        requires { numbers.degree + numbers.divisor ≤ HIGHEST }
         ensures { (result.n ≡ draft.n) × ((result.degree ≡ numbers.degree) × ((result.divisor ≡ numbers.divisor) × (result.columns ≡ numbers.columns))) }
     {
         Framed {

@@ -1,4 +1,4 @@
-// A call as a value, and what it answered. `runs::request` has a `Put` too, beside the calls on framed designs; both are public, and stay.
+// A call as a value, and what it answered. `runs::request` has a `Put` too, beside the other calls; both are public, and stay.
 use design::fault::DesignFault;
 use fields::fault::RefusalText;
 use std::fmt;

@@ -1,12 +1,13 @@
 -- The tables of the link, read as series: coefficient t is the symbol at time t. The clauses of `products` and `calls` cite it; it
 -- assumes nothing.
-use Rattle.std.specs.Prelude.{◌≡◌, ℕ, ◌+◌, ◌-◌, ◌*◌, ◌<◌, Bool, true, false, List, length}
+use Rattle.std.specs.Prelude.{◌≡◌, ℕ, ◌+◌, ◌-◌, ◌*◌, ◌<◌, List, length}
 use Rattle.algebra.specs.Rings.{RingOps}
-use Rattle.algebra.specs.Series.{series}
+use Rattle.algebra.specs.Series.{dot, series}
 use Rattle.algebra.specs.Link.{inverted}
 use Rattle.tables.specs.Places.{at}
 use Rattle.frames.specs.Rows.{generator_in}
 use Rattle.framing.specs.Framing.{column_in}
+pub use Rattle.judging.specs.Answers.{Tells}
 
 -- the message: its symbols, then zeros
 abbrev pub message_series : {F R : Type 0} → RingOps R → (F → R) → List F → ℕ → R
@@ -16,10 +17,9 @@ message_series o member message t = at o member message t
 abbrev pub stream : {F R : Type 0} → RingOps R → (F → R) → ℕ → List F → ℕ → ℕ → R
 stream o member n block i t = at o member block (n * t + i)
 
--- yes exactly when P holds
-abbrev pub Tells : Type 0 → Bool → Type 0
-Tells P true = P
-Tells P false = P → ⊥
+-- the sum over n streams of stream i times component i of column j of a frame
+abbrev pub column_sum : {F R : Type 0} → RingOps R → (F → R) → (n : ℕ) (block frame : List F) (j : ℕ) → ℕ → R
+column_sum o member n block frame j = dot (series o) n (stream o member n block) (column_in o member frame j)
 
 -- the block holds L + d times of n streams: stream i is the message times generator i
 abbrev pub Encoded : {F R : Type 0} → RingOps R → (F → R) → (n d : ℕ) (generators message block : List F) → Type 0

@@ -34,7 +34,7 @@ fn ask(
     ensures lengths { OnOk result ((table ≡ exact) × (1 ≤ symbols) × (symbols ≤ SYMBOLS) × (block ≡ framed.now.n * (symbols + framed.now.degree))) }
 {
     if table != exact {
-        return Err(LinkFault::Design(DesignFault::TableLength));
+        return Err(DesignFault::TableLength.into());
     }
     if framed.divisor_degree() != 0 {
         return Err(LinkFault::Divisor);

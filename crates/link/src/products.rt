@@ -1,19 +1,15 @@
 // Coefficients of products of streams and polynomials.
 ghost use Rattle.std.specs.Prelude.{◌≡◌, ℕ, ◌+◌, ◌-◌, ◌*◌, ◌<◌, ◌≤◌, length};
 ghost use Rattle.algebra.specs.Link.{Clean};
-ghost use Rattle.algebra.specs.Series.{dot, series};
+ghost use Rattle.algebra.specs.Series.{series};
 ghost use Rattle.framing.specs.Framing.{column_in};
 ghost use Rattle.tables.specs.Places.{at};
-ghost use Rattle.tables.specs.declared.sizes.TheConstants.{FRAME, MAX_COUNT};
-ghost use Rattle.link.specs.Blocks.{stream, Tells};
+ghost use Rattle.tables.specs.declared.sizes.TheConstants.{FRAME, HIGHEST, MAX_COUNT};
+ghost use Rattle.link.specs.Blocks.{stream, column_sum, Tells};
 ghost use Rattle.link.specs.declared.calls.TheConstants.{SYMBOLS};
-ghost use Rattle.link.specs.declared.products.TheConstants.{HIGHEST};
 
 use fields::field::Field;
-use tables::sizes::{GENERATORS, WIDTH};
-
-// The highest power of a polynomial.
-const HIGHEST: usize = WIDTH - 1;
+use tables::sizes::{GENERATORS, HIGHEST, WIDTH};
 
 // A block of n streams at so many times: the symbol of stream i at time t lies at n t + i.
 // At most a message times a generator lies in it. `times` is the length by n, and stays a field: a method would divide at each coefficient,
@@ -50,7 +46,7 @@ impl<'a, F: Field> Streams<'a, F> {
     // The coefficient of s^t in the sum over the streams of stream i times component i of column j of a frame.
     pub fn combination(&self, frame: &[F], j: usize, t: usize) -> F
         requires { (length frame.now ≡ FRAME) × (j < MAX_COUNT) }
-        ensures { F.member result ≡ dot (series F.ops) self.now.n (stream F.ops F.member self.now.n self.now.symbols.now) (column_in F.ops F.member frame.now j) t }
+        ensures { F.member result ≡ column_sum F.ops F.member self.now.n self.now.symbols.now frame.now j t }
     {
         let column = &frame[GENERATORS * j..][..WIDTH * self.n];
         column.chunks_exact(WIDTH).enumerate().fold(
@@ -62,7 +58,7 @@ impl<'a, F: Field> Streams<'a, F> {
     // Whether the sum of column j of a frame has no s^t.
     fn vanishes(&self, frame: &[F], j: usize, t: usize) -> bool
         requires { (length frame.now ≡ FRAME) × (j < MAX_COUNT) }
-        ensures { Tells (dot (series F.ops) self.now.n (stream F.ops F.member self.now.n self.now.symbols.now) (column_in F.ops F.member frame.now j) t ≡ F.ops.zero) result }
+        ensures { Tells (column_sum F.ops F.member self.now.n self.now.symbols.now frame.now j t ≡ F.ops.zero) result }
     {
         self.combination(frame, j, t).same(F::zero())
     }
@@ -70,7 +66,7 @@ impl<'a, F: Field> Streams<'a, F> {
     // Whether the sums of all check columns have no s^t.
     fn clean_at(&self, frame: &[F], t: usize) -> bool
         requires { length frame.now ≡ FRAME }
-        ensures { Tells ((j : ℕ) → 1 ≤ j → j < self.now.n → dot (series F.ops) self.now.n (stream F.ops F.member self.now.n self.now.symbols.now) (column_in F.ops F.member frame.now j) t ≡ F.ops.zero) result }
+        ensures { Tells ((j : ℕ) → 1 ≤ j → j < self.now.n → column_sum F.ops F.member self.now.n self.now.symbols.now frame.now j t ≡ F.ops.zero) result }
     {
         (1..self.n).all(|j| self.vanishes(frame, j, t))
     }

@@ -77,7 +77,7 @@ fn first_number<'a>(text: &'a [u8]) -> Result<Counted<'a>, Unread>
     })
 }
 
-// One number. This and the next two read word by word: a list of the numbers would ask for memory.
+// One number. This and the next two stay apart: an array of N numbers would need a contract on N words, and be no shorter.
 fn begin(text: &[u8]) -> Result<Call, Unread>
     ensures { Taken key.Begin (words text.now) result }
 {

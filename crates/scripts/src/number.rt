@@ -4,6 +4,7 @@ ghost use Rattle.std.specs.Str.Parse.{IsNumeral};
 ghost use Rattle.scripts.specs.Numbers.{Number};
 
 // The number that a word writes, at most the largest of its type; none where the word is no number.
+// No `parse`: a number above the largest is read as the largest, and a sign is refused.
 pub fn number(word: &[u8]) -> Option<u32>
     ensures { MatchOption result (IsNumeral 10 word.now → ⊥) (λ n. Number word.now n) }
 {

@@ -1,4 +1,4 @@
-use Rattle.std.proofs.Common.{◌≡◌, ◌+◌, length, unwrap_or, sym, ap, ◌∙◌, arith}
+use Rattle.std.proofs.Common.{◌≡◌, ◌+◌, ◌-◌, ◌*◌, length, unwrap_or, sym, ap, ◌∙◌, arith}
 use Rattle.fields.specs.Elements.{code_of}
 use Rattle.cards.specs.Cards.{link, records}
 use Rattle.cards.specs.Overwriting.{over}
@@ -11,30 +11,33 @@ pub loop-power-preserved : goal.loop-power-preserved
 loop-power-preserved g c =
     let f = g.F.Field in
     let i = c.loop-power.invariant in
+    let left = terms_from (code_of f.number f.member) (c.loop-power.power + 1) c.args.row.now in
     elim c.if-code-ne0.branch [
       | then-code-ne0 w ↦
           let e = from_nonzero (code_of f.number f.member) c.loop-power.power c.args.row.now c.index-row-power.result c.code-code.result c.loop-power-test.true c.index-row-power.is c.code-code.ensures w.if-code-ne0.true in
           let n = ap length e in
-          let later : c.if-code-ne0.left ≡ length (terms_from (code_of f.number f.member) (c.loop-power.power + 1) c.args.row.now) = omega (arith, w.left-is, n, i.later) in
+          let last : c.count_terms-count.result - c.loop-power.k - 1 ≡ length left = omega (arith, n, i.later) in
+          let numbered : c.args.first + c.loop-power.k + 1 ≡ c.args.first + c.if-code-ne0.k = omega (arith, w.k-is) in
           record {
-            later = later;
-            few = omega (arith, w.next-is, i.few);
-            counted = omega (arith, w.left-is, w.next-is, n, i.later, i.counted);
-            room = omega (arith, w.left-is, w.at-is, n, c.if-code-ne0.auto.buffer, i.later, i.room);
+            later = omega (arith, w.k-is, n, i.later);
+            few = omega (arith, w.k-is, i.few);
+            counted = i.counted;
+            room = omega (arith, c.if-code-ne0.auto.buffer, i.room);
             written =
-                records_step c.loop-power.at c.loop-power.next c.loop-power.power c.code-code.result (unwrap_or w.link.result 0) _ _ c.loop-power.buffer _ _ _
-                w.at-is w.next-is (w.buffer-is ∙ w.write_record.ensures) e (w.link.ensures _ (omega (arith, w.left-is, later)) ∙ ap (λ k. link k (terms_from (code_of f.number f.member) (c.loop-power.power + 1) c.args.row.now)) (sym w.next-is))
+                records_step (c.args.place + 4 * c.loop-power.k) (c.args.first + c.loop-power.k) c.loop-power.power c.code-code.result (unwrap_or w.link.result 0) _ _ c.loop-power.buffer
+                (c.args.place + 4 * c.if-code-ne0.k) (c.args.first + c.if-code-ne0.k) _
+                (omega (arith, w.k-is)) (omega (arith, w.k-is)) (w.buffer-is ∙ w.write_record.ensures) e (w.link.ensures left last ∙ ap (λ k. link k left) numbered)
                 ∙ i.written;
           }
       | else-code-ne0 w ↦
           let e = from_zero (code_of f.number f.member) c.loop-power.power c.args.row.now c.index-row-power.result c.code-code.result c.loop-power-test.true c.index-row-power.is c.code-code.ensures w.if-code-ne0.false in
           let n = ap length e in
           record {
-            later = omega (arith, w.left-is, n, i.later);
-            few = omega (arith, w.next-is, i.few);
-            counted = omega (arith, w.left-is, w.next-is, i.counted);
-            room = omega (arith, w.left-is, w.at-is, c.if-code-ne0.auto.buffer, i.room);
-            written = cc (w.at-is, w.next-is, w.buffer-is, e, i.written);
+            later = omega (arith, w.k-is, n, i.later);
+            few = omega (arith, w.k-is, i.few);
+            counted = i.counted;
+            room = omega (arith, c.if-code-ne0.auto.buffer, i.room);
+            written = cc (w.k-is, w.buffer-is, e, i.written);
           }
     ]
 
@@ -42,6 +45,6 @@ pub returns-clause-after : goal.returns-clause-after
 returns-clause-after g c =
     let f = g.F.Field in
     let none = from_all (code_of f.number f.member) c.loop-power.power c.args.row.now c.loop-power-test.false in
-    sym (over_nothing c.loop-power.at c.loop-power.buffer)
-    ∙ ap (λ ts. over c.loop-power.at (records c.loop-power.next ts) c.loop-power.buffer) (sym none)
+    sym (over_nothing (c.args.place + 4 * c.loop-power.k) c.loop-power.buffer)
+    ∙ ap (λ ts. over (c.args.place + 4 * c.loop-power.k) (records (c.args.first + c.loop-power.k) ts) c.loop-power.buffer) (sym none)
     ∙ c.loop-power.invariant.written

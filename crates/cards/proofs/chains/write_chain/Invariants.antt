@@ -11,9 +11,9 @@ invariant-loop-power g l =
     let all = terms_from (code_of f.number f.member) 0 l.row in
     let left = terms_from (code_of f.number f.member) l.power l.row in
     record {
-      later : l.left ≡ length left;
-      few : l.next ≤ l.first + l.power;
-      counted : l.next + l.left ≡ l.first + length all;
-      room : l.at + 4 * l.left ≤ length l.buffer;
-      written : over l.at (records l.next left) l.buffer ≡ over l.place (records l.first all) l.initial.buffer;
+      later : l.k + length left ≡ l.count;
+      few : l.k ≤ l.power;
+      counted : l.count ≡ length all;
+      room : l.place + 4 * l.count ≤ length l.buffer;
+      written : over (l.place + 4 * l.k) (records (l.first + l.k) left) l.buffer ≡ over l.place (records l.first all) l.initial.buffer;
     }

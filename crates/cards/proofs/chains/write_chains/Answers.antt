@@ -31,7 +31,7 @@ loop-row-preserved g c =
       one = omega (arith, after, c.loop-row.invariant.one);
       few = omega (arith, after, some, full, row_length (code_of f.number f.member) _ row _ step.0 full, c.loop-row.invariant.few);
       written =
-          chains_step (n + 4 * next - 1) (n + 4 * c.write_chain-next.result - 1) next c.write_chain-next.result (terms 0 (map (code_of f.number f.member) row)) _ _ c.loop-row.buffer c.write_chain-next.new.buffer
+          chains_step (3 + n + 4 * (next - 1)) (3 + n + 4 * (c.write_chain-next.result - 1)) next c.write_chain-next.result (terms 0 (map (code_of f.number f.member) row)) _ _ c.loop-row.buffer c.write_chain-next.new.buffer
           after (omega (arith, after, c.loop-row.invariant.one)) c.write_chain-next.ensures.after (row_next (code_of f.number f.member) _ row _ step.0 full)
           ∙ c.loop-row.invariant.written;
     }
@@ -39,7 +39,7 @@ loop-row-preserved g c =
 pub returns : goal.returns
 returns g c =
     let f = g.F.Field in
-    let k = c.args.n + 4 * c.loop-row.next - 1 in
+    let k = 3 + c.args.n + 4 * (c.loop-row.next - 1) in
     let none = row_none (code_of f.number f.member) (chunks_exact_rest c.loop-row.row-iterator) (omega (arith, c.in-None.ensures.steps.1.0, c.loop-row.invariant.size)) in
     let all = row_all (code_of f.number f.member) c.args.n c.args.table.now (omega (arith, c.requires)) in
     sym (over_nothing k c.loop-row.buffer)

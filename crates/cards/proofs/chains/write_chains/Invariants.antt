@@ -14,5 +14,5 @@ invariant-loop-row g l =
       size : chunks_exact_size l.row-iterator ≡ 17;
       one : 1 ≤ l.next;
       few : l.next + length rest ≤ 1 + 17 * l.n;
-      written : over (l.n + 4 * l.next - 1) (chains l.next (row_generators (code_of f.number f.member) rest)) l.buffer ≡ over (3 + l.n) (chains 1 (row_generators (code_of f.number f.member) (take (17 * l.n) l.table))) l.initial.buffer;
+      written : over (3 + l.n + 4 * (l.next - 1)) (chains l.next (row_generators (code_of f.number f.member) rest)) l.buffer ≡ over (3 + l.n) (chains 1 (row_generators (code_of f.number f.member) (take (17 * l.n) l.table))) l.initial.buffer;
     }

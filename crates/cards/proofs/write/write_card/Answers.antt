@@ -15,13 +15,13 @@ returns g c =
     let n = c.count-n.result in
     let m = c.write_heads-m.result in
     let gs = generators n codes in
-    let zeros = c.clear.new.buffer in
+    let zeros = c.fill.new.self in
     let counted : c.write_chains.new.buffer ≡ over (3 + n) (chains 1 gs) (set c.write_heads-m.new.buffer 2 m) = search rules in
     let written : c.write_chains.new.buffer ≡ card c.kind.result gs ++ replicate (555 - (3 + n + 4 * m)) 0 =
     counted
     ∙ ap (λ b. over (3 + n) (chains 1 gs) (set b 2 m)) c.write_heads-m.ensures.after
     ∙ card_over c.kind.result n m gs zeros (length_generators n codes) c.write_heads-m.ensures.count
-    (c.clear.ensures ∙ ap (λ k. replicate k 0) c.if-buffer-ne-CARD.false) (omega (arith, c.write_heads-m.ensures.bound, c.count-n.ensures, c.args.draft.now)) in
+    (c.fill.ensures.after (λ y e. e) ∙ ap (λ k. replicate k 0) c.if-buffer-ne-CARD.false) (omega (arith, c.write_heads-m.ensures.bound, c.count-n.ensures, c.args.draft.now)) in
     let long : 3 + n + 4 * m ≡ length (card f.tag (generators c.args.draft.now.n codes)) =
     (omega (arith, length_generators n codes, c.write_heads-m.ensures.count)) ∙ sym (length_card f.tag gs) ∙ ap (λ k. length (card f.tag (generators k codes))) c.count-n.ensures in
     let whole : c.write_chains.new.buffer ≡ card f.tag (generators c.args.draft.now.n codes) ++ replicate (555 - (3 + n + 4 * m)) 0 =
