@@ -18,8 +18,7 @@ use tables::sizes::{WIDTH, WORK};
 use texts::list::{BytesText, SymbolsText};
 use texts::verdict::VerdictText;
 
-// The symbols that a table is made for, of as many as a call names: one more than SYMBOLS is refused as any larger number is,
-// and no more memory is asked for.
+// How many symbols a table is made for where a call names so many: one more than SYMBOLS is refused as any larger number is.
 fn lent(symbols: usize) -> usize {
     symbols.min(SYMBOLS + 1)
 }
@@ -141,7 +140,7 @@ impl<F: Field> Desk<F> {
         let mut buffer = [0u8; CARD];
         let length = write_card(self.draft()?, &self.generators, &mut buffer)?;
         let text = BytesText {
-            bytes: buffer.get(..length).unwrap_or(&buffer),
+            bytes: &buffer[..length],
         };
         Ok(format!(in self.heap; "card {text}")?)
     }

@@ -17,6 +17,7 @@ fn columns_fit(columns: &[Vec<Vec<u32>>]) -> bool {
 }
 
 // Writes the coefficients of a component, as far as there are places.
+// No `zip` here and below: a code past the last place is still judged.
 fn write_component<F: Field>(table: &mut [F], codes: &[u32]) -> Result<(), FieldFault> {
     let mut places = table.iter_mut();
     for code in codes {

@@ -25,7 +25,7 @@ pub struct StandingText<'a>(pub &'a Design);
 
 impl fmt::Display for StandingText<'_> {
     fn fmt<W: fmt::Write>(&self, f: &mut fmt::Formatter<W>) -> fmt::Result {
-        // Bound first: a proof of a match on `self.0` itself is not made.
+        // Bound first: in a match on `self.0` itself the borrow checker covers no pattern at `Framed`, which has a ghost field.
         let design = self.0;
         match design {
             Design::Draft(draft) => write!(f, "draft {}", draft.count()),
@@ -98,9 +98,8 @@ impl<F: Field> fmt::Display for FrameText<'_, F> {
         let n = self.framed.generators();
         let divisor = CodesText(self.frame.get(COLUMNS..).unwrap_or(&[]));
         write!(f, "divisor: {divisor}")?;
-        for (j, column) in self.frame.chunks(GENERATORS).take(n).enumerate() {
-            // A proof does not know how long a part is.
-            let components = ColumnText(column.get(..WIDTH * n).unwrap_or(column));
+        for (j, column) in (0..n).zip(self.frame.chunks_exact(GENERATORS)) {
+            let components = ColumnText(&column[..WIDTH * n]);
             write!(f, "\ncolumn {j}: {components}")?;
         }
         Ok(())

@@ -2,7 +2,7 @@
 use crate::list::BytesText;
 use std::fmt;
 
-// The card that stands in the first bytes of a buffer.
+// A card; bytes past its records are not shown.
 #[derive(Drop)]
 pub struct CardText<'a> {
     pub bytes: &'a [u8],
@@ -45,6 +45,7 @@ impl fmt::Display for CardText<'_> {
         let (heads, records) = rest.split_at(usize::from(*n).min(rest.len()));
         let shown = BytesText { bytes: heads };
         writeln!(f, "  {shown}: the first record of each generator")?;
+        // By four: the bytes that `RecordText` takes apart.
         for (i, bytes) in records.chunks(4).take(usize::from(*m)).enumerate() {
             let number = i + 1;
             write!(f, "{}", RecordText { number, bytes })?;

@@ -1,4 +1,5 @@
 // A design while its codes are entered.
+// Both programs tell one story, each by the calls that it shows; what they share as values stands in `walkthrough`.
 use crate::station::Station;
 use anyhow::anyhow;
 use design::draft::Draft;

@@ -1,4 +1,4 @@
-// The walk-through: one design over the tones, from its codes to its card.
+// The walk-through: designs over the tones, from their codes to card, frame and link.
 #![tactic(auto)]
 
 mod entered;

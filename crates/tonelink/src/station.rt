@@ -9,9 +9,10 @@ use texts::list::SymbolsText;
 use texts::verdict::VerdictText;
 use tones::Tone;
 use walkthrough::columns::{ColumnsText, spoiled};
-use walkthrough::designs::{DESIGN_BLOCK, SENT};
+use walkthrough::designs::{DESIGN_BLOCK, HIT, SENT};
 
 // A framed design with its tables.
+// `rt` is no field: a lifetime would stand on each `Station`, and no line would be saved.
 #[derive(Drop)]
 pub struct Station {
     pub framed: Framed,
@@ -52,7 +53,8 @@ impl Station {
         };
         println!(rt; "The message 3 1 is sent, and once more with its fourth symbol hit:")?;
         self.receive(rt, &block)?;
-        block[3] = Tone::T9;
+        let (place, hit) = HIT;
+        block[place] = hit;
         self.receive(rt, &block)
     }
 

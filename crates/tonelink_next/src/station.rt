@@ -1,4 +1,5 @@
 // A design over the tones with its tables, and the lists of requests that are performed on it.
+// Both programs tell one story, each by the calls that it shows; what they share as values stands in `walkthrough`.
 use crate::answer::AnswerText;
 use anyhow::anyhow;
 use design::draft::Draft;
@@ -9,6 +10,7 @@ use tables::sizes::{FRAME, GENERATORS};
 use tones::Tone;
 
 // A design with the tables that it lends.
+// `rt` is no field: a lifetime would stand on each `Station` and `Answered`, and no line would be saved.
 #[derive(Drop)]
 pub struct Station {
     pub design: Design,

@@ -11,7 +11,9 @@ use tones::Tone;
 use tones::Tone::{T0, T1, T30};
 use walkthrough::card::Kept;
 use walkthrough::columns::{ColumnsText, spoiled};
-use walkthrough::designs::{DESIGN, DESIGN_BLOCK, DivisorText, SENT, SHARED, SHARED_BLOCK, SLIPS};
+use walkthrough::designs::{
+    DESIGN, DESIGN_BLOCK, DivisorText, HIT, SENT, SHARED, SHARED_BLOCK, SLIPS,
+};
 use walkthrough::products::ProductsText;
 
 // A column of two components, each by its coefficients from power 0 up.
@@ -28,15 +30,15 @@ const LONGER: [Column; 2] = [FIRST, [[T0, T1, T1, T0], [T0, T0, T0, T30]]];
 
 // Enters coefficients, then prints the generators.
 fn enter(rt: &HostRuntime, station: Station, entries: &[Entry]) -> anyhow::Result<Station> {
-    let mut requests = Vec::new(rt.alloc());
     // Both types belong to other crates, so that no `From` between them can be written here.
-    for Entry::Put { i, power, code } in entries {
-        requests.push(Request::Put {
+    let requests = entries
+        .iter()
+        .map(|Entry::Put { i, power, code }| Request::Put {
             i: *i,
             power: *power,
             code: *code,
-        })?;
-    }
+        })
+        .collect::<Vec<_>>(rt.alloc())?;
     let Answered { station, .. } = station.run(rt, entries, requests)?;
     let row = RowText {
         row: &station.generators[..2 * WIDTH],
@@ -115,8 +117,9 @@ fn send(rt: &HostRuntime, station: Station) -> anyhow::Result<Station> {
     };
     let clean = receive(rt, encoded.station, &block)?;
     println!(rt; "The fourth symbol is hit, from 4 to 9:")?;
-    if let Some(symbol) = block.get_mut(3) {
-        *symbol = Tone::T9;
+    let (place, hit) = HIT;
+    if let Some(symbol) = block.get_mut(place) {
+        *symbol = hit;
     }
     let spoilt = receive(rt, clean.station, &block)?;
     compare(rt, &spoilt)?;

@@ -2,6 +2,7 @@
 ghost use Rattle.std.specs.Prelude.{◌≡◌, IfOk};
 ghost use Rattle.std.specs.List.{slice_set};
 ghost use Rattle.cards.specs.RoundTrip.{ReadsBack};
+ghost use Rattle.walkthrough.specs.declared.card.TheConstants.{DAMAGED};
 
 use anyhow::anyhow;
 use cards::read::read_card;
@@ -16,6 +17,9 @@ use tables::sizes::{GENERATORS, WIDTH};
 use texts::card::CardText;
 use texts::polynomial::RowText;
 use tones::Tone;
+
+// The byte of a card that is damaged: in the card of DESIGN, the power of its third record.
+const DAMAGED: usize = 13;
 
 // What comes of reading a card.
 #[derive(Drop)]
@@ -38,7 +42,7 @@ impl fmt::Display for ReadingText<'_> {
     }
 }
 
-// A design's card, and the same with its byte 13 set to 0.
+// A design's card, and the same with its byte DAMAGED set to 0.
 #[derive(Drop)]
 pub struct Kept {
     pub card: Vec<u8>,
@@ -49,7 +53,7 @@ impl Kept {
     // The card of a design.
     pub fn of(heap: Global, draft: &Draft, table: &[Tone]) -> anyhow::Result<Kept>
         ensures card { IfOk result (λ kept. ReadsBack ⟦<Tone as Field>⟧.ops ⟦<Tone as Field>⟧.member ⟦<Tone as Field>⟧.number ⟦<Tone as Field>⟧.order ⟦<Tone as Field>⟧.tag draft.now.n table.now kept.card.items) }
-        ensures damaged { IfOk result (λ kept. kept.damaged.items ≡ slice_set kept.card.items 13 0) }
+        ensures damaged { IfOk result (λ kept. kept.damaged.items ≡ slice_set kept.card.items DAMAGED 0) }
     {
         let mut buffer = [0u8; CARD];
         let Ok(length) = write_card(draft, table, &mut buffer) else {
@@ -57,7 +61,7 @@ impl Kept {
         };
         let card = Vec::from_slice(heap, &buffer[..length])?;
         let mut damaged = card.clone()?;
-        if let Some(byte) = damaged.get_mut(13) {
+        if let Some(byte) = damaged.get_mut(DAMAGED) {
             *byte = 0;
         }
         Ok(Kept { card, damaged })
@@ -73,7 +77,7 @@ impl fmt::Display for Kept {
         write!(f, "{}", ReadingText { card: &self.card })?;
         writeln!(
             f,
-            "Byte 13 is damaged, from 1 to 0, and the card is read again:"
+            "Byte {DAMAGED} is damaged, from 1 to 0, and the card is read again:"
         )?;
         write!(
             f,

@@ -18,11 +18,10 @@ impl<F: Field> fmt::Display for ColumnsText<'_, F> {
     fn fmt<W: fmt::Write>(&self, f: &mut fmt::Formatter<W>) -> fmt::Result {
         let n = self.framed.generators();
         let degrees = self.framed.columns().to_le_bytes();
-        let columns = self.frame.chunks(GENERATORS).zip(degrees.iter());
-        for (j, (column, degree)) in columns.take(n).enumerate() {
-            // A proof does not know how long a part is.
+        let columns = self.frame.chunks_exact(GENERATORS).zip(degrees.iter());
+        for (j, (column, degree)) in (0..n).zip(columns) {
             let row = RowText {
-                row: column.get(..WIDTH * n).unwrap_or(column),
+                row: &column[..WIDTH * n],
             };
             writeln!(f, "  column {j}, of degree {degree}: {row}")?;
         }
