@@ -56,12 +56,7 @@ fn frame_again<F: Field>(tables: &mut Tables<F>) -> Option<FramedText> {
 fn every_time<C: FnMut() -> bool>(mut call: C) -> bool
     requires { C.IsAlwaysCallable call }
 {
-    for _ in 0..BLOCKS {
-        if !call() {
-            return false;
-        }
-    }
-    true
+    (0..BLOCKS).all(|_| call())
 }
 
 // Encodes, checks and inverts a message of codes that look random.

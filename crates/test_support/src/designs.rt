@@ -1,5 +1,6 @@
 // Designs by the terms of their generators, with the tables that they lend.
-ghost use Rattle.std.specs.Prelude.{◌≡◌, ◌≤◌, IfOk, vec_len, take, drop};
+ghost use Rattle.std.specs.Prelude.{◌≡◌, IfOk, length, vec_len, take, drop};
+ghost use Rattle.tables.specs.declared.sizes.TheConstants.{GENERATORS, FRAME, WORK};
 
 use design::draft::Draft;
 use design::fault::DesignFault;
@@ -37,6 +38,9 @@ pub struct Tables<F: Field> {
     pub generators: Vec<F>,
     pub frame: Vec<F>,
     pub work: Vec<F>,
+    ghost rows: { length generators.items ≡ GENERATORS },
+    ghost long: { length frame.items ≡ FRAME },
+    ghost room: { length work.items ≡ WORK },
 }
 
 impl<F: Field + Clone> Tables<F> {
@@ -53,15 +57,15 @@ impl<F: Field + Clone> Tables<F> {
 
     // The columns of the frame.
     pub fn columns(&self) -> &[F]
-        ensures { COLUMNS ≤ vec_len self.now.frame → result.now ≡ take COLUMNS self.now.frame.items }
+        ensures { result.now ≡ take COLUMNS self.now.frame.items }
     {
-        self.frame.get(..COLUMNS).unwrap_or(&[])
+        &self.frame[..COLUMNS]
     }
 
     // The divisor behind them.
     pub fn divisor(&self) -> &[F]
-        ensures { COLUMNS ≤ vec_len self.now.frame → result.now ≡ drop COLUMNS self.now.frame.items }
+        ensures { result.now ≡ drop COLUMNS self.now.frame.items }
     {
-        self.frame.get(COLUMNS..).unwrap_or(&[])
+        &self.frame[COLUMNS..]
     }
 }
