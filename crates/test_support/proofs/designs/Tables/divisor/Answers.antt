@@ -1,6 +1,6 @@
-use Rattle.std.proofs.Common.{rules}
-use Rattle.std.proofs.lemmas.List.{take_rest}
+use Rattle.std.proofs.Common.{rules, length, arith}
+use Rattle.std.proofs.lemmas.Slice.{between_to_end}
 use Rattle.test_support.proofs.designs.Tables.divisor.Goals as goal
 
 pub returns : goal.returns
-returns g c = let rest = take_rest c.deref.result.now 1088 in search rules
+returns g c = let rest = between_to_end c.deref.result.now 1088 (length c.deref.result.now) (omega arith) in λ long. search rules
