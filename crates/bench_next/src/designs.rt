@@ -52,11 +52,16 @@ fn frame_again<F: Field>(tables: &mut Tables<F>) -> Option<FramedText> {
     frame(tables, draft).map(FramedText)
 }
 
-// Whether a call answers yes every time.
+// Whether a call answers yes every time. Tried by `all` over the range: that it may be called at each turn was not found.
 fn every_time<C: FnMut() -> bool>(mut call: C) -> bool
     requires { C.IsAlwaysCallable call }
 {
-    (0..BLOCKS).all(|_| call())
+    for _ in 0..BLOCKS {
+        if !call() {
+            return false;
+        }
+    }
+    true
 }
 
 // Encodes, checks and inverts a message of codes that look random.
