@@ -52,7 +52,7 @@ fn frame_again<F: Field>(tables: &mut Tables<F>) -> Option<FramedText> {
     frame(tables, draft).map(FramedText)
 }
 
-// Whether a call answers yes every time.
+// Whether a call answers yes every time. Tried by `all` over the range: that it may be called at each turn was not found.
 fn every_time<C: FnMut() -> bool>(mut call: C) -> bool
     requires { C.IsAlwaysCallable call }
 {

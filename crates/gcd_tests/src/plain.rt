@@ -1,4 +1,5 @@
-// Plain arithmetic of polynomials as 17 codes, written apart from the library.
+// Plain arithmetic of polynomials as 17 codes, written apart from the library, and from the trials' `codes`, whose slips it then does not
+// share.
 use fields::field::Field;
 use tables::sizes::WIDTH;
 

@@ -1,4 +1,7 @@
 // Rows of generators for the tests, and what is checked of each.
+ghost use Rattle.std.specs.Prelude.{◌≡◌, ◌≤◌, length};
+ghost use Rattle.tables.specs.declared.sizes.TheConstants.{GENERATORS, MAX_COUNT, WORK};
+
 use crate::plain::{Polynomial, code, divides, element, multiply, top};
 use fields::field::Field;
 use frames::row::{DIVISOR, Degrees, ROW, divide_by_gcd};
@@ -39,11 +42,16 @@ pub struct Row<F: Field> {
     pub n: usize,
     pub generators: Vec<F>,
     pub work: Vec<F>,
+    ghost few: { n ≤ MAX_COUNT },
+    ghost rows: { length generators.items ≡ GENERATORS },
+    ghost room: { length work.items ≡ WORK },
 }
 
 impl<F: Field + Clone> Row<F> {
     // Generators that are zero, and a work table full of one element.
-    pub(crate) fn zeros(heap: Global, n: usize, rest: F) -> Result<Row<F>, AllocError> {
+    pub(crate) fn zeros(heap: Global, n: usize, rest: F) -> Result<Row<F>, AllocError>
+        requires { n ≤ MAX_COUNT }
+    {
         Ok(Row {
             n,
             generators: vec![in heap; F::zero(); GENERATORS]?,
@@ -53,24 +61,19 @@ impl<F: Field + Clone> Row<F> {
 }
 
 impl<F: Field> Row<F> {
-    // The call, for tables of the right lengths.
+    // The call.
     pub fn divide(&mut self) -> Option<Degrees> {
-        let n = self.n;
-        if n <= MAX_COUNT && self.generators.len() == GENERATORS && self.work.len() == WORK {
-            divide_by_gcd(n, &self.generators, &mut self.work)
-        } else {
-            None
-        }
+        divide_by_gcd(self.n, &self.generators, &mut self.work)
     }
 
     // What stands at the divisor's place.
     pub(crate) fn divisor(&self) -> Polynomial {
-        codes(self.work.get(DIVISOR..ROW).unwrap_or(&[]))
+        codes(&self.work[DIVISOR..ROW])
     }
 
     // What stands from the first quotient on.
     fn quotients(&self) -> &[F] {
-        self.work.get(ROW..).unwrap_or(&[])
+        &self.work[ROW..]
     }
 
     // Whether every place outside the divisor and so many quotients is zero.

@@ -89,11 +89,9 @@ fn tone_pair_rows(rt: HostRuntime) -> Result<(), Fail> {
 #[test]
 fn square_and_square_with_line(rt: HostRuntime) -> Result<(), Fail> {
     let mut row = Row::zeros(rt.alloc(), 2, Tone::T0)?;
-    for place in [2, 18, 19] {
-        if let Some(x) = row.generators.get_mut(place) {
-            *x = Tone::T1;
-        }
-    }
+    row.generators[2] = Tone::T1;
+    row.generators[WIDTH + 1] = Tone::T1;
+    row.generators[WIDTH + 2] = Tone::T1;
     let degrees = row.divide().ok_or("every generator is zero")?;
     assert_eq!(rt; degrees.divisor, 1);
     assert_eq!(rt; degrees.row, 1);

@@ -174,7 +174,8 @@ mod tests {
         assert_eq!(rt; station.check(&transit.block), Ok(true));
         assert_eq!(rt; station.invert(&transit.block, &mut transit.back), Ok(()));
         assert_eq!(rt; transit.spoiled(), 0);
-        for place in 0..14usize {
+        // By place, since each hit changes the block.
+        for place in 0..transit.block.len() {
             transit.hit(rt, place)?;
         }
         Ok(())

@@ -31,7 +31,8 @@ impl Design<'_> {
     }
 }
 
-// The tables that a design lends.
+// The tables that a design lends. Tried with ghost fields of their lengths: no user's proof was made, since the borrow checker does not cover
+// the loan of a field as `&mut` beside those of others as `&`. `draft.frame` is called in full where it is used: it is what the tests test.
 #[derive(Drop)]
 pub struct Tables<F: Field> {
     pub generators: Vec<F>,

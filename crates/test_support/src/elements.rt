@@ -38,7 +38,8 @@ pub fn holds<F: Field>(table: &[F], cells: &[Cell]) -> bool
         && sum_of_codes(table) == sum
 }
 
-// Writes codes at their places; whether the table has every place.
+// Writes codes at their places; whether the table has every place. A bool, and no second refusal: a missing place is a slip of the test
+// itself, which asserts that there is none.
 pub fn write<F: Field>(table: &mut [F], cells: &[Cell]) -> Result<bool, FieldFault>
     ensures { IfOk result (λ whole. IsTrue whole → All (λ c. (c.0 < length table.new) × (c.1 < F.order)) cells.now) }
 {

@@ -37,24 +37,22 @@ pub fn is_block<F: Field>(row: &Row, message: &[F], block: &[F]) -> bool
         .all(|(place, x)| x.code() == symbol(row, message, place))
 }
 
-// The part with that number of a table cut into parts of one size; none where there is no such part.
+// The part with that number of a table cut into parts of one size; empty where there is no such part.
 fn part<F: Field>(table: &[F], size: usize, i: usize) -> &[F]
     requires { 0 < size }
     ensures { result.now ≡ take size (drop (size * i) table.now) }
 {
-    let start = size.saturating_mul(i).min(table.len());
-    let rest = &table[start..];
-    &rest[..size.min(rest.len())]
+    table.chunks(size).nth(i).unwrap_or(&[])
 }
 
-// Column j of a frame table, its components one after the other; none where there is no such column.
+// Column j of a frame table, its components one after the other; empty where there is no such column.
 pub fn column<F: Field>(frame: &[F], j: usize) -> &[F]
     ensures { result.now ≡ take ROW (drop (ROW * j) frame.now) }
 {
     part(frame, ROW, j)
 }
 
-// Component i of a column; none where there is no such component.
+// Component i of a column; empty where there is no such component.
 pub fn component<F: Field>(column: &[F], i: usize) -> &[F]
     ensures { result.now ≡ take POWERS (drop (POWERS * i) column.now) }
 {

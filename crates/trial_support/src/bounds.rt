@@ -101,7 +101,8 @@ fn ranks<F: Field>(row: &Row) -> ([usize; POWERS], [u16; LENGTH]) {
     (ranks, echelon.least().unwrap_or([0; LENGTH]))
 }
 
-// The least degree of a vector whose product with the row is the divisor: the first bound at which a combination gives it.
+// The least degree of a vector whose product with the row is the divisor: the first bound at which a combination gives it. By a `for`: in
+// `find` the closure did not prove that k is below POWERS, which `insert_power` requires.
 fn least_bezout<F: Field>(row: &Row, divisor: [u16; LENGTH]) -> Option<usize> {
     let mut echelon = Echelon::empty();
     for k in 0..POWERS {

@@ -1,4 +1,5 @@
-// Rows framed by the library and by the second solver.
+// Rows framed by the library and by the second solver. Refusals by their numbers, which docs/refusals.md promises, as everywhere in the
+// trials. Each function takes what it compares, and no two take the same; offers.rt asks two of them of its own, so no struct holds all.
 use crate::station::{Tables, all_are, enter, holds, mark};
 use design::framed::Framed;
 use fields::fault::Refusal;

@@ -36,11 +36,12 @@ fn rewriting_agrees<F: Field>(draft: &Draft, table: &mut [F], row: &Row) -> bool
         return false;
     };
     mark(table);
-    read_card(buffer.get(..length).unwrap_or(&[]), table).is_ok_and(|again| again.count() == row.n)
+    read_card(&buffer[..length], table).is_ok_and(|again| again.count() == row.n)
         && holds_row(table, row)
 }
 
-// Whether reading gives the design of a row, which is written and read again.
+// Whether reading gives the design of a row, which is written and read again. A struct of the bytes and the table would be made anew for
+// each reading, since the card changes between two.
 fn design_agrees<F: Field>(bytes: &[u8], table: &mut [F], row: &Row) -> bool {
     read_card(bytes, table).is_ok_and(|draft| {
         draft.count() == row.n && holds_row(table, row) && rewriting_agrees(&draft, table, row)

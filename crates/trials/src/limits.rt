@@ -15,10 +15,11 @@ use trial_support::faults::Fault;
 use trial_support::rows::Row;
 use trial_support::sizes::{CARD, GENERATORS, POWERS, ROW};
 
-// The longest message.
+// The longest message. Not the link's `SYMBOLS`: it is this number that the calls are to confirm.
 const LONGEST: usize = 4096;
 
-// The number of a refusal, absent for a grant.
+// The number of a refusal, which docs/refusals.md promises, absent for a grant. Its like in design_tests stays: the trials use no crate of
+// the tests.
 fn refusal<T: Drop, E: Refusal + Drop>(answer: Result<T, E>) -> Option<u8> {
     answer.err().map(|fault| fault.number())
 }
@@ -96,7 +97,7 @@ fn try_length(
     Ok(tally)
 }
 
-// A block of another length than its message asks for, for tables of other lengths, and for a divisor that is not 1.
+// A block of another length than its message asks for, tables of other lengths, and a divisor that is not 1.
 fn try_link(framed: &Framed, shared: &Framed, tables: &Tables<Tone>) -> Tally {
     let mut tally = Tally::default();
     let mut message = [Tone::T4; 1];
