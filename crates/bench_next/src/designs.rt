@@ -7,7 +7,7 @@ use link::calls::{SYMBOLS, check, encode, invert};
 use random::Random;
 use std::alloc::Global;
 use std::{fmt, io};
-use tables::sizes::{MAX_COUNT, WIDTH};
+use tables::sizes::{HIGHEST, MAX_COUNT};
 use test_support::designs::Tables;
 
 const FRAMES: u32 = 1000;
@@ -15,7 +15,7 @@ const FRAMES: u32 = 1000;
 const BLOCKS: u32 = 20;
 
 // The symbols of a stream under a design of degree 16.
-const STREAM: usize = SYMBOLS + WIDTH - 1;
+const STREAM: usize = SYMBOLS + HIGHEST;
 
 // A framed design, in words.
 #[derive(Drop)]

@@ -34,7 +34,7 @@ fn write_chain<F: Field>(row: &[F], first: usize, buffer: &mut [u8], place: usiz
     ensures next { result ≡ first + length (terms 0 (map (code_of F.number F.member) row.now)) }
     ensures after { buffer.new ≡ over place (records first (terms 0 (map (code_of F.number F.member) row.now))) buffer.old }
 {
-    // The records are counted by hand: for a loop over `filter` and a second `enumerate`, the check refuses the proof files that it writes.
+    // Counted by hand. Tried by a loop over `filter` and a second `enumerate`: the check refused the proof files that it writes itself.
     let count = count_terms(row);
     let mut k = 0;
     for (power, x) in row.iter().enumerate() {

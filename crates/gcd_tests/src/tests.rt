@@ -4,7 +4,7 @@ use fields::field::Field;
 use nibbles::Nibble;
 use std::process::Abort;
 use std::test::Fail;
-use tables::sizes::{MAX_COUNT, WIDTH};
+use tables::sizes::{HIGHEST, MAX_COUNT, WIDTH};
 use tones::Tone;
 use towers::{Byte, TonePair};
 
@@ -17,7 +17,7 @@ fn fill<F: Field>(n: usize, e: usize, seed: u32, generators: &mut [F]) {
     let mut next = seed;
     for (i, generator) in generators.chunks_mut(WIDTH).take(MAX_COUNT).enumerate() {
         let other = if i < n && (n == 2 || i != 1) {
-            polynomial::<F>((WIDTH - 1).saturating_sub(e), next)
+            polynomial::<F>(HIGHEST.saturating_sub(e), next)
         } else {
             [0; WIDTH]
         };

@@ -59,9 +59,7 @@ impl<'a, F: Field> Graded<'a, F> {
         requires independent { Independent F.ops All count self.now.offer.now.n (check_leading F.ops F.member self.now.offer.now.offered.now self.now.degrees) }
         ensures { Tells (Spanned F.ops All count self.now.offer.now.n (check_leading F.ops F.member self.now.offer.now.offered.now self.now.degrees) (coefficients_in F.ops F.member self.now.offer.now.offered.now 0 (entry_at self.now.degrees 0)) → ⊥) result }
     {
-        let Some(mut steps) = self.eliminate(count, factors, pivots) else {
-            unreachable!()
-        };
+        let mut steps = self.eliminate(count, factors, pivots).unwrap();
         let mut cells = [F::zero(); MAX_COUNT];
         let column = &mut cells[..self.offer.n];
         self.write_leading(0, column);

@@ -39,6 +39,7 @@ pub fn write_at<F: Field>(row: &Row<'_, F>, j: usize, places: &[usize], list: &[
 }
 
 // Writes check column j: one at the place q, and the negated entries of a reduced column at the places before it.
+// Six parameters, which no other function takes together.
 pub fn write_check<F: Field>(
     row: &Row<'_, F>,
     j: usize,

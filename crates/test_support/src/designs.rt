@@ -31,8 +31,9 @@ impl Design<'_> {
     }
 }
 
-// The tables that a design lends. Tried with ghost fields of their lengths: no user's proof was made, since the borrow checker does not cover
-// the loan of a field as `&mut` beside those of others as `&`. `draft.frame` is called in full where it is used: it is what the tests test.
+// The tables that a design lends. Tried with ghost fields of their lengths: no proof was made in the crates that use it, since the borrow
+// checker covered none of their loans of a field as `&mut` beside others as `&`. (`gcd_tests::Row` has such fields, and lends in its own
+// methods.) `draft.frame` is called in full where it is used: it is what the tests test.
 #[derive(Drop)]
 pub struct Tables<F: Field> {
     pub generators: Vec<F>,

@@ -47,10 +47,10 @@ pub const SHARED: [Request; 3] = [
 // The message that is sent.
 pub const SENT: [Tone; 2] = [Tone::T3, Tone::T1];
 
-// The hit: the place in the block of DESIGN, and the symbol that it becomes there.
+// The hit: the place in the block of SENT over DESIGN, and the symbol that stands there afterwards.
 pub const HIT: (usize, Tone) = (3, Tone::T9);
 
-// How long its block is over DESIGN, and over SHARED: two streams, each as long as the message and the design's degree.
+// How long the block of SENT is over DESIGN, and over SHARED: two streams, each as long as the message and the design's degree.
 pub const DESIGN_BLOCK: usize = 2 * (SENT.len() + 2);
 
 pub const SHARED_BLOCK: usize = 2 * (SENT.len() + 1);
