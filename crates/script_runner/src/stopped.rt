@@ -19,7 +19,7 @@ pub enum Reason {
 
 impl Reason {
     // Why a call is not admitted that wants the other kind of design.
-    pub fn of(design: &Design) -> Reason {
+    pub(crate) fn of(design: &Design) -> Reason {
         match design {
             Design::Draft(_) => Reason::Draft,
             Design::Framed(_) => Reason::Framed,
