@@ -1,14 +1,24 @@
-// Multiplies a million times in each field and writes the last code; finds the greatest common divisor of a row a thousand times and writes
-// the degrees; with the word `time`, also how long each took.
+// Measures products, the greatest common divisor of a row, frames and blocks, and writes what each comes to, which the gate compares; with
+// the word `time`, also how long each took.
 #![tactic(auto)]
 
-use bench_support::bench::Bench;
-use bench_support::products::run_products;
-use bench_support::rows::run_rows;
-use std::io;
+mod designs;
+mod measure;
+mod products;
+mod rows;
 
-fn main(rt: HostRuntime) -> io::Result<()> {
+use designs::run_designs;
+use measure::Bench;
+use products::run_products;
+use rows::run_rows;
+use tones::Tone;
+use towers::Byte;
+
+fn main(rt: HostRuntime) -> anyhow::Result<()> {
     let bench = Bench::start(&rt)?;
     run_products(&bench)?;
-    run_rows(&bench)
+    run_rows(&bench)?;
+    let heap = rt.alloc();
+    run_designs::<Tone>(&bench, heap, "frames over tones")?;
+    run_designs::<Byte>(&bench, heap, "frames over bytes")
 }

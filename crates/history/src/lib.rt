@@ -1,5 +1,6 @@
-// Runs: any list of puts on one draft, performed in order.
+// Runs: any list of calls on one design, performed in order.
 #![tactic(auto)]
 
 pub mod perform;
 pub mod request;
+mod steps;

@@ -1,45 +1,48 @@
 // The call that performs a list of requests, and the theorem on runs.
-ghost use Rattle.std.specs.Prelude.{◌≡◌, MatchResult};
+ghost use Rattle.std.specs.Prelude.{◌≡◌, IfOk, IfErr};
 ghost use Rattle.fields.specs.Elements.{code_of};
-ghost use Rattle.history.specs.Runs.{Step, Performs};
+ghost use Rattle.history.specs.Runs.{Performs};
+ghost use Rattle.history.specs.Steps.{Step, SafeStep, Stands, held};
 
-use crate::request::{Answer, Request};
-use design::draft::Draft;
+use crate::request::{Answer, Design, Request};
+use crate::steps::perform_one;
 use fields::field::Field;
-use std::alloc::{AllocFailed, Global};
+use std::alloc::Global;
 
 // A design after a list of requests, with the answer to each.
 #[derive(Drop)]
-pub struct Performed {
-    pub draft: Draft,
-    pub answers: Vec<Answer>,
+pub struct Performed<F: Drop> {
+    pub design: Design,
+    pub answers: Vec<Answer<F>>,
 }
 
-// Performs one request.
-fn perform_one<F: Field>(draft: &Draft, generators: &mut [F], request: &Request) -> Answer
-    ensures { Step (code_of F.number F.member) F.order draft.now.n request.now generators.old result generators.new }
-{
-    match request {
-        Request::Put { i, power, code } => Answer::Put(draft.put(generators, *i, *power, *code)),
-    }
+// A design with requests for which there was no memory.
+#[derive(Drop)]
+pub struct Unperformed<F: Drop> {
+    pub design: Design,
+    pub requests: Vec<Request<F>>,
 }
 
 // Performs the requests in order, and answers each. Where memory for the answers is wanting, nothing is done.
 pub fn perform<F: Field>(
     heap: Global,
-    draft: Draft,
+    design: Design,
     generators: &mut [F],
-    requests: &[Request],
-) -> Result<Performed, AllocFailed<Draft>>
-    ensures draft { MatchResult result (λ p. p.draft ≡ draft) (λ e. e.value ≡ draft) }
-    ensures run { MatchResult result (λ p. Performs (Step (code_of F.number F.member) F.order draft.n) requests.now generators.old p.answers.items generators.new) (λ _. generators.new ≡ generators.old) }
+    frame: &mut [F],
+    requests: Vec<Request<F>>,
+) -> Result<Performed<F>, Unperformed<F>>
+    ensures run { IfOk result (λ p. Performs (Step F.ops F.member (code_of F.number F.member) F.order) requests.items (held design generators.old frame.old) p.answers.items (held p.design generators.new frame.new)) }
+    ensures promises { IfOk result (λ p. Stands F.ops F.member design generators.old frame.old → Performs (SafeStep F.ops F.member (code_of F.number F.member) F.order) requests.items (held design generators.old frame.old) p.answers.items (held p.design generators.new frame.new)) }
+    ensures unperformed { IfErr result (λ e. (e.design ≡ design) × (e.requests ≡ requests) × (generators.new ≡ generators.old) × (frame.new ≡ frame.old)) }
 {
     let Ok(mut answers) = Vec::with_capacity(heap, requests.len()) else {
-        return Err(AllocFailed { value: draft });
+        return Err(Unperformed { design, requests });
     };
-    // `runs` has the like loop; one for both would say in a trait what is lent and what moves, which is longer than the two.
+    let mut design = design;
     for request in requests {
-        answers.push_reserved(perform_one(&draft, generators, request));
+        let stepped = perform_one(design, generators, frame, request);
+        design = stepped.design;
+        answers.push_reserved(stepped.answer);
     }
-    Ok(Performed { draft, answers })
+    Ok(Performed { design, answers })
 }

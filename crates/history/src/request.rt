@@ -1,39 +1,56 @@
-// A call as a value, and what it answered. `runs::request` has a `Put` too, beside the other calls; both are public, and stay.
+// A call as a value, and what it answered.
+use design::draft::Draft;
 use design::fault::DesignFault;
-use fields::fault::RefusalText;
-use std::fmt;
+use design::framed::Framed;
+use link::fault::LinkFault;
 
-// One call on a design, with the numbers that it is brought, which may be any.
-#[derive(Clone, Copy)]
-pub enum Request {
+// A design, as the calls so far have left it.
+#[derive(Drop)]
+pub enum Design {
+    Draft(Draft),
+    Framed(Framed),
+}
+
+// One call on a design, with the numbers and tables that it is brought, which may be any.
+#[derive(Drop)]
+pub enum Request<F: Drop> {
     Put { i: usize, power: usize, code: u32 },
+    Frame { work: Vec<F> },
+    Offer { offered: Vec<F>, work: Vec<F> },
+    Reopen,
+    Encode { message: Vec<F>, block: Vec<F> },
+    Check { block: Vec<F> },
+    Invert { block: Vec<F>, message: Vec<F> },
 }
 
-// What the call of the same name answered.
-#[derive(Clone, Copy)]
-pub enum Answer {
+// What the call of the same name answered, with the tables that it was brought.
+#[derive(Drop)]
+pub enum Answer<F: Drop> {
     Put(Result<(), DesignFault>),
-}
-
-impl fmt::Display for Request {
-    fn fmt<W: fmt::Write>(&self, f: &mut fmt::Formatter<W>) -> fmt::Result {
-        match self {
-            Request::Put { i, power, code } => write!(
-                f,
-                "put code {code} at power {power} of generator {i}"
-            ),
-        }
-    }
-}
-
-impl fmt::Display for Answer {
-    fn fmt<W: fmt::Write>(&self, f: &mut fmt::Formatter<W>) -> fmt::Result {
-        match self {
-            Answer::Put(Ok(_)) => write!(f, "written"),
-            Answer::Put(Err(fault)) => {
-                let text = RefusalText { fault };
-                write!(f, "{text}")
-            }
-        }
-    }
+    Frame {
+        answer: Result<(), DesignFault>,
+        work: Vec<F>,
+    },
+    Offer {
+        answer: Result<(), DesignFault>,
+        offered: Vec<F>,
+        work: Vec<F>,
+    },
+    Reopen(Result<(), DesignFault>),
+    Encode {
+        answer: Result<(), LinkFault>,
+        message: Vec<F>,
+        block: Vec<F>,
+    },
+    Check {
+        answer: Result<bool, LinkFault>,
+        block: Vec<F>,
+    },
+    Invert {
+        answer: Result<(), LinkFault>,
+        block: Vec<F>,
+        message: Vec<F>,
+    },
+    // A draft or a framed design was wanted, and the other was there.
+    NotAdmitted(Request<F>),
 }

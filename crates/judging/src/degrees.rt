@@ -13,7 +13,7 @@ use frames::row::row_degree;
 use tables::sizes::MAX_COUNT;
 
 // The columns of an offer, with their degrees: of one that is zero it is 0, as `Highest` defines the degree of every row.
-// The degrees are an array of fixed size, of which n are used: no memory is allocated below `runs`.
+// The degrees are an array of fixed size, of which n are used: no memory is allocated below `history`.
 #[derive(Drop)]
 pub(crate) struct Graded<'a, F: Field> {
     pub(crate) offer: &'a Offer<'a, F>,

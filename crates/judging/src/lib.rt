@@ -23,7 +23,7 @@ mod products;
 mod taking;
 
 // How many factors the steps of elimination have, at most. The judge's tables are arrays of fixed size: no memory is allocated below
-// `runs`.
+// `history`.
 const FACTORS: usize = MAX_COUNT * MAX_COUNT;
 
 // Judges offered columns for the first n generators, and takes them into the frame table where nothing speaks against them. Leaves the work

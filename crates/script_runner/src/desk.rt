@@ -7,7 +7,7 @@ use crate::stopped::Reason;
 use design::draft::Draft;
 use design::framed::Framed;
 use fields::field::Field;
-use runs::request::Design;
+use history::request::Design;
 use std::alloc::{AllocError, Global};
 use tables::sizes::{FRAME, GENERATORS};
 

@@ -2,9 +2,9 @@
 use cards::fault::CardFault;
 use design::fault::DesignFault;
 use fields::fault::{FieldFault, Refusal};
+use history::perform::Unperformed;
+use history::request::Design;
 use link::fault::LinkFault;
-use runs::perform::Unperformed;
-use runs::request::Design;
 use std::alloc::{AllocError, AllocFailed};
 use std::fmt;
 

@@ -1,7 +1,7 @@
 // What is printed of the answers.
 use design::framed::Framed;
 use fields::field::Field;
-use runs::request::Design;
+use history::request::Design;
 use std::fmt;
 use tables::sizes::{COLUMNS, GENERATORS, WIDTH};
 use texts::list::BytesText;

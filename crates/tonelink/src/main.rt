@@ -1,40 +1,25 @@
-// The walk-through: designs over the tones, from their codes to card, frame and link.
+// The program: a walk-through of every call, or a script.
 #![tactic(auto)]
 
-mod entered;
+mod answer;
+mod run;
 mod station;
+mod walk;
 
-use entered::Entered;
-use walkthrough::designs::{DESIGN, DivisorText, SHARED, SLIPS};
-use walkthrough::products::ProductsText;
+use run::command;
+use std::env;
+use walk::walk;
 
-// The design (s^2, 1 + s): entered, with two slips, kept on a card, and carried over the link.
-fn first_design(rt: &HostRuntime) -> anyhow::Result<()> {
-    println!(rt; "A new design of 2 generators over the 31 tones is begun.")?;
-    let entered = Entered::begin()?;
-    println!(rt; "Its generators s^2 and 1 + s are entered by their codes:")?;
-    let entered = entered.enter(rt, &DESIGN)?;
-    println!(rt; "Two slips of the hand are refused, and change nothing:")?;
-    let entered = entered.enter(rt, &SLIPS)?;
-    print!(rt; "{}", entered.kept(rt.alloc())?)?;
-    entered.frame()?.carry(rt)
-}
-
-// A design whose generators have a common factor.
-fn factor(rt: &HostRuntime) -> anyhow::Result<()> {
-    let entered = Entered::begin()?;
-    println!(rt; "Another design is entered, whose generators have a common factor:")?;
-    let entered = entered.enter(rt, &SHARED)?;
-    let divisor = DivisorText {
-        generators: &entered.generators,
-    };
-    println!(rt; "{divisor}")?;
-    entered.frame()?.carry(rt)
+// With no word the walk-through; else the command that the words are.
+fn start(rt: &HostRuntime) -> anyhow::Result<()> {
+    let mut words = env::args(rt)?;
+    let _program = words.next();
+    match words.next() {
+        None => walk(rt),
+        Some(word) => command(rt, word.as_str(), words.next()),
+    }
 }
 
 fn main(rt: HostRuntime) -> anyhow::Result<()> {
-    first_design(&rt)?;
-    factor(&rt)?;
-    print!(rt; "{ProductsText}")?;
-    Ok(())
+    start(&rt)
 }

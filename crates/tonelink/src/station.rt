@@ -1,78 +1,68 @@
-// A framed design on the link.
+// A design over the tones with its tables, and the lists of requests that are performed on it.
+use crate::answer::AnswerText;
 use anyhow::anyhow;
-use design::framed::Framed;
-use fields::fault::RefusalText;
-use link::calls::{check, encode, invert};
-use link::fault::LinkFault;
+use design::draft::Draft;
+use history::perform::perform;
+use history::request::{Answer, Design, Request};
+use std::fmt;
 use tables::sizes::{FRAME, GENERATORS};
-use texts::list::SymbolsText;
-use texts::verdict::VerdictText;
 use tones::Tone;
-use walkthrough::columns::{ColumnsText, spoiled};
-use walkthrough::designs::{DESIGN_BLOCK, HIT, SENT};
 
-// A framed design with its tables.
-// `rt` is no field: a lifetime would stand on each `Station`, and no line would be saved.
+// A design with the tables that it lends.
+// `rt` is no field: a lifetime would stand on each `Station` and `Answered`, and no line would be saved.
 #[derive(Drop)]
 pub struct Station {
-    pub framed: Framed,
+    pub design: Design,
     pub generators: [Tone; GENERATORS],
     pub frame: [Tone; FRAME],
 }
 
+// A station after a list of requests, with the answer to each.
+#[derive(Drop)]
+pub struct Answered {
+    pub station: Station,
+    pub answers: Vec<Answer<Tone>>,
+}
+
 impl Station {
-    // Shows the frame, and sends a message where the design's divisor allows it.
-    pub fn carry(&self, rt: &HostRuntime) -> anyhow::Result<()> {
-        println!(rt; "The design is framed:")?;
-        let columns = ColumnsText {
-            framed: &self.framed,
-            frame: &self.frame,
+    // A new design of 2 generators.
+    pub(crate) fn begin() -> anyhow::Result<Station> {
+        let mut generators = [Tone::T0; GENERATORS];
+        let Ok(draft) = Draft::begin(2, &mut generators) else {
+            return Err(anyhow!("begin was refused"));
         };
-        print!(rt; "{columns}")?;
-        println!(rt;
-            "No Bezout vector is shorter than column 0: one hit on the air spoils at most {} symbols.",
-            spoiled(&self.framed)
-        )?;
-        if let Err(fault @ LinkFault::Divisor) = encode(
-            &self.framed,
-            &self.generators,
-            &[],
-            &mut [],
-        ) {
-            println!(rt; "The link turns it away: {}", RefusalText { fault: &fault })?;
-            return Ok(());
+        Ok(Station {
+            design: Design::Draft(draft),
+            generators,
+            frame: [Tone::T0; FRAME],
+        })
+    }
+
+    // Performs requests and prints each call with its answer.
+    pub(crate) fn run<C: fmt::Display>(
+        self,
+        rt: &HostRuntime,
+        calls: &[C],
+        requests: Vec<Request<Tone>>,
+    ) -> anyhow::Result<Answered> {
+        let Station {
+            design,
+            mut generators,
+            mut frame,
+        } = self;
+        let Ok(done) = perform(rt.alloc(), design, &mut generators, &mut frame, requests) else {
+            return Err(anyhow!("no memory for the answers"));
+        };
+        for (call, answer) in calls.iter().zip(done.answers.iter()) {
+            println!(rt; "  {call}: {}", AnswerText { answer })?;
         }
-        self.send(rt)
-    }
-
-    // Sends a message over the link, and once more with a hit on the air.
-    fn send(&self, rt: &HostRuntime) -> anyhow::Result<()> {
-        let mut block = [Tone::T0; DESIGN_BLOCK];
-        let Ok(_) = encode(&self.framed, &self.generators, &SENT, &mut block) else {
-            return Err(anyhow!("encode was refused"));
-        };
-        println!(rt; "The message 3 1 is sent, and once more with its fourth symbol hit:")?;
-        self.receive(rt, &block)?;
-        let (place, hit) = HIT;
-        block[place] = hit;
-        self.receive(rt, &block)
-    }
-
-    // Checks a block and inverts it.
-    fn receive(&self, rt: &HostRuntime, block: &[Tone]) -> anyhow::Result<()> {
-        let mut message = [Tone::T0; SENT.len()];
-        let Ok(clean) = check(&self.framed, &self.frame, block) else {
-            return Err(anyhow!("check was refused"));
-        };
-        let Ok(_) = invert(&self.framed, &self.frame, block, &mut message) else {
-            return Err(anyhow!("invert was refused"));
-        };
-        let sent = SymbolsText { symbols: block };
-        let home = SymbolsText { symbols: &message };
-        println!(rt;
-            "  block {sent}: {}, inverted to {home}",
-            VerdictText(clean)
-        )?;
-        Ok(())
+        Ok(Answered {
+            station: Station {
+                design: done.design,
+                generators,
+                frame,
+            },
+            answers: done.answers,
+        })
     }
 }

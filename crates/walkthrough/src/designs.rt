@@ -1,4 +1,7 @@
 // The designs that are entered, by the codes of their nonzero coefficients.
+ghost use Rattle.std.specs.Prelude.{◌≡◌};
+ghost use Rattle.history.specs.declared.request.Request.TheVariants.{Put};
+
 use frames::row::{DIVISOR, ROW, divide_by_gcd};
 use history::request::Request;
 use std::fmt;
@@ -6,19 +9,46 @@ use tables::sizes::{GENERATORS, WIDTH, WORK};
 use texts::polynomial::{PolynomialText, RowText};
 use tones::Tone;
 
+// A coefficient as it is entered: the numbers of a put.
+#[derive(Clone, Copy)]
+pub struct Entry {
+    pub i: usize,
+    pub power: usize,
+    pub code: u32,
+}
+
+impl From<Entry> for Request<Tone> {
+    ghost from_gives = { λ e r. r ≡ Put e.i e.power e.code };
+
+    fn from(entry: Entry) -> Request<Tone> {
+        Request::Put {
+            i: entry.i,
+            power: entry.power,
+            code: entry.code,
+        }
+    }
+}
+
+impl fmt::Display for Entry {
+    fn fmt<W: fmt::Write>(&self, f: &mut fmt::Formatter<W>) -> fmt::Result {
+        let Entry { i, power, code } = self;
+        write!(f, "put code {code} at power {power} of generator {i}")
+    }
+}
+
 // The design (s^2, 1 + s).
-pub const DESIGN: [Request; 3] = [
-    Request::Put {
+pub const DESIGN: [Entry; 3] = [
+    Entry {
         i: 0,
         power: 2,
         code: 1,
     },
-    Request::Put {
+    Entry {
         i: 1,
         power: 0,
         code: 1,
     },
-    Request::Put {
+    Entry {
         i: 1,
         power: 1,
         code: 1,
@@ -26,18 +56,18 @@ pub const DESIGN: [Request; 3] = [
 ];
 
 // The design (s^2, s + s^2).
-pub const SHARED: [Request; 3] = [
-    Request::Put {
+pub const SHARED: [Entry; 3] = [
+    Entry {
         i: 0,
         power: 2,
         code: 1,
     },
-    Request::Put {
+    Entry {
         i: 1,
         power: 1,
         code: 1,
     },
-    Request::Put {
+    Entry {
         i: 1,
         power: 2,
         code: 1,
@@ -56,13 +86,13 @@ pub const DESIGN_BLOCK: usize = 2 * (SENT.len() + 2);
 pub const SHARED_BLOCK: usize = 2 * (SENT.len() + 1);
 
 // Two slips of the hand.
-pub const SLIPS: [Request; 2] = [
-    Request::Put {
+pub const SLIPS: [Entry; 2] = [
+    Entry {
         i: 1,
         power: 17,
         code: 1,
     },
-    Request::Put {
+    Entry {
         i: 0,
         power: 0,
         code: 31,

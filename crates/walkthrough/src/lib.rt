@@ -1,4 +1,4 @@
-// What both programs walk through: the designs that they enter, and columns, divisors, cards and products as text.
+// What the program walks through: the designs that it enters, and columns, divisors, cards and products as text.
 #![tactic(auto)]
 
 pub mod card;

@@ -1,4 +1,4 @@
--- What both theorems are proved from: the frames of the worked designs and the block of the worked message, each found by tests.
+-- What the theorem is proved from: the frames of the worked designs and the block of the worked message, each found by tests.
 use Rattle.std.proofs.Common.{ℕ, List, [], ◌∷◌}
 use Rattle.algebra.specs.Link.{Encodes}
 use Rattle.algebra.specs.Lists.{listed, listed_row, listed_block, each, AllFrames}

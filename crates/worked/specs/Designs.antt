@@ -1,13 +1,9 @@
--- Worked designs, each with its generators, divisor, degree and columns, and a worked message. The clause of the crate cites it; it
--- assumes nothing.
+-- Worked designs, each with its generators, divisor, degree and columns. The clause of the crate cites it; it assumes nothing.
 use Rattle.std.specs.Prelude.{ℕ, ◌/◌, ◌%◌, List, [], ◌∷◌}
-use Rattle.algebra.specs.Link.{Encodes}
-use Rattle.algebra.specs.Lists.{listed, listed_row, listed_block, Design, each, AllFrames}
+use Rattle.algebra.specs.Lists.{Design}
 use Rattle.nibbles.specs.Nibbles.{nibble_of}
 use Rattle.nibbles.specs.declared.Nibble.{Nibble}
 use Rattle.pairs.specs.Pairs.{PairMember, pair}
-use Rattle.tones.specs.Tones.{tone_ops, tone_of}
-use Rattle.towers.specs.Worked.{byte_ops}
 
 -- m + 1 generators, their divisor, the degree of the row divided by it, and the columns, all by codes from power 0 up
 abbrev design : ℕ → List (List ℕ) → List ℕ → ℕ → List (List (List ℕ)) → Design
@@ -40,9 +36,3 @@ byte_designs =
     -- (16, s)
     design 1 ((16 ∷ []) ∷ (0 ∷ 1 ∷ []) ∷ []) (1 ∷ []) 1 (((255 ∷ []) ∷ [] ∷ []) ∷ ((0 ∷ 1 ∷ []) ∷ (16 ∷ []) ∷ []) ∷ [])
     ∷ []
-
--- the columns of each design are its frame, and the message 3 1 under (s^2, s + 1) encodes to 0 3 0 4 3 1 1 0
-pub record WorkedDesigns : Type 0 where
-  pub tones : AllFrames tone_ops tone_of tone_designs
-  pub bytes : AllFrames byte_ops byte_of byte_designs
-  pub message : Encodes tone_ops 2 (listed_row tone_ops (each (each tone_of) ((0 ∷ 0 ∷ 1 ∷ []) ∷ (1 ∷ 1 ∷ []) ∷ []))) 2 (listed tone_ops (each tone_of (3 ∷ 1 ∷ []))) (listed_block tone_ops 2 (each tone_of (0 ∷ 3 ∷ 0 ∷ 4 ∷ 3 ∷ 1 ∷ 1 ∷ 0 ∷ [])))

@@ -1,9 +1,9 @@
 use Rattle.std.proofs.Common.{refl, arith}
 use Rattle.std.proofs.lemmas.List.{with_items_is}
-use Rattle.runs.specs.Steps.{turned_away}
-use Rattle.runs.proofs.Lent.{answered_as, encodes_lent, checks_lent, inverts_lent, turned_from_framed}
-use Rattle.runs.proofs.steps.on_framed.Goals.{in-Encode, in-Check, in-Invert, in_default}
-use Rattle.runs.proofs.steps.on_framed.Goals as goal
+use Rattle.history.specs.Steps.{turned_away}
+use Rattle.history.proofs.Lent.{answered_as, encodes_lent, checks_lent, inverts_lent, turned_from_framed}
+use Rattle.history.proofs.steps.on_framed.Goals.{in-Encode, in-Check, in-Invert, in_default}
+use Rattle.history.proofs.steps.on_framed.Goals as goal
 
 pub returns : goal.returns
 returns g c =

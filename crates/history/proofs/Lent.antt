@@ -9,13 +9,13 @@ use Rattle.design.specs.Frames.{Frames, FrameRefused, reopen_questions}
 use Rattle.design.specs.Offers.{Offers, OfferRefused}
 use Rattle.fields.specs.Questions.{first_no}
 use Rattle.link.specs.declared.fault.LinkFault.{LinkFault}
-use Rattle.runs.specs.declared.request.Design.{Design}
-use Rattle.runs.specs.declared.request.Design.TheVariants as standing
-use Rattle.runs.specs.declared.request.Request.{Request}
-use Rattle.runs.specs.declared.request.Request.TheVariants as asked
-use Rattle.runs.specs.declared.request.Answer.{Answer}
-use Rattle.runs.specs.declared.request.Answer.TheVariants as answered
-use Rattle.runs.specs.Steps.{Held, held, admits, Step, EncodeCall, CheckCall, InvertCall, frames, frame_refused, offers, offer_refused, reopen_refused, encodes, checks, inverts}
+use Rattle.history.specs.declared.request.Design.{Design}
+use Rattle.history.specs.declared.request.Design.TheVariants as standing
+use Rattle.history.specs.declared.request.Request.{Request}
+use Rattle.history.specs.declared.request.Request.TheVariants as asked
+use Rattle.history.specs.declared.request.Answer.{Answer}
+use Rattle.history.specs.declared.request.Answer.TheVariants as answered
+use Rattle.history.specs.Steps.{Held, held, admits, Step, EncodeCall, CheckCall, InvertCall, frames, frame_refused, offers, offer_refused, reopen_refused, encodes, checks, inverts}
 
 -- a draft turns away what is neither put nor frame nor offer
 pub turned_from_draft : {F : Type 0} (d : Draft) (q : Request F) → ((i power code : ℕ) → q ≡ asked.Put i power code → ⊥) → ((w : _) → q ≡ asked.Frame w → ⊥)

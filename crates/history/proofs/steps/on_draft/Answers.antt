@@ -1,8 +1,8 @@
 use Rattle.std.proofs.Common.{arith}
 use Rattle.std.proofs.lemmas.List.{with_items_is}
-use Rattle.runs.specs.Steps.{puts, turned_away}
-use Rattle.runs.proofs.Lent.{asked_as, frames_settled, offers_settled, turned_from_draft}
-use Rattle.runs.proofs.steps.on_draft.Goals as goal
+use Rattle.history.specs.Steps.{puts, turned_away}
+use Rattle.history.proofs.Lent.{asked_as, frames_settled, offers_settled, turned_from_draft}
+use Rattle.history.proofs.steps.on_draft.Goals as goal
 
 pub returns-in-Put : goal.returns-in-Put
 returns-in-Put g c = asked_as _ _ _ _ _ _ _ _ _ c.in-Put.is (puts c.put.ensures)

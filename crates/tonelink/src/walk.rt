@@ -2,8 +2,7 @@
 use crate::station::{Answered, Station};
 use anyhow::anyhow;
 use fields::field::Field;
-use history::request::Request as Entry;
-use runs::request::{Answer, Design, Request};
+use history::request::{Answer, Design, Request};
 use std::alloc::Global;
 use tables::sizes::{COLUMNS, GENERATORS, WIDTH, WORK};
 use texts::polynomial::RowText;
@@ -12,7 +11,7 @@ use tones::Tone::{T0, T1, T30};
 use walkthrough::card::Kept;
 use walkthrough::columns::{ColumnsText, spoiled};
 use walkthrough::designs::{
-    DESIGN, DESIGN_BLOCK, DivisorText, HIT, SENT, SHARED, SHARED_BLOCK, SLIPS,
+    DESIGN, DESIGN_BLOCK, DivisorText, Entry, HIT, SENT, SHARED, SHARED_BLOCK, SLIPS,
 };
 use walkthrough::products::ProductsText;
 
@@ -30,14 +29,9 @@ const LONGER: [Column; 2] = [FIRST, [[T0, T1, T1, T0], [T0, T0, T0, T30]]];
 
 // Enters coefficients, then prints the generators.
 fn enter(rt: &HostRuntime, station: Station, entries: &[Entry]) -> anyhow::Result<Station> {
-    // Both types belong to other crates, so that no `From` between them can be written here.
     let requests = entries
         .iter()
-        .map(|Entry::Put { i, power, code }| Request::Put {
-            i: *i,
-            power: *power,
-            code: *code,
-        })
+        .map(|entry| Request::from(*entry))
         .collect::<Vec<_>>(rt.alloc())?;
     let Answered { station, .. } = station.run(rt, entries, requests)?;
     let row = RowText {

@@ -1,5 +1,5 @@
 // Frames of 8 random generators of degree 16, and blocks of the longest message.
-use bench_support::bench::Bench;
+use crate::measure::Bench;
 use design::draft::Draft;
 use design::framed::Framed;
 use fields::field::Field;

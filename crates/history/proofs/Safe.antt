@@ -18,14 +18,14 @@ use Rattle.link.specs.declared.fault.LinkFault.{LinkFault}
 use Rattle.link.specs.Blocks.{message_series, Tells}
 use Rattle.link.specs.Guarantees.{OptimalFrame, OneSymbolChangesFew}
 use Rattle.link.specs.Questions.{link_questions, symbols_in}
-use Rattle.runs.specs.declared.request.Design.{Design}
-use Rattle.runs.specs.declared.request.Design.TheVariants as standing
-use Rattle.runs.specs.declared.request.Request.{Request}
-use Rattle.runs.specs.declared.request.Answer.{Answer}
-use Rattle.runs.specs.declared.request.Answer.TheVariants as answered
+use Rattle.history.specs.declared.request.Design.{Design}
+use Rattle.history.specs.declared.request.Design.TheVariants as standing
+use Rattle.history.specs.declared.request.Request.{Request}
+use Rattle.history.specs.declared.request.Answer.{Answer}
+use Rattle.history.specs.declared.request.Answer.TheVariants as answered
 use Rattle.history.specs.Runs.{Performs, Performs.done, Performs.next}
-use Rattle.runs.specs.Steps.{Held, held, Step, Stands, Sent, PromisedOf, SafeStep, EncodeCall, CheckCall, InvertCall}
-use Rattle.runs.specs.Steps as steps
+use Rattle.history.specs.Steps.{Held, held, Step, Stands, Sent, PromisedOf, SafeStep, EncodeCall, CheckCall, InvertCall}
+use Rattle.history.specs.Steps as steps
 
 -- questions that were all passed were passed one by one
 second_passed : {E : Type 0} (a b : Bool) (x y : E) (qs : List (Question E)) → None ≡ first_no (asks a x ∷ asks b y ∷ qs) → b ≡ true

@@ -19,12 +19,12 @@ use Rattle.link.specs.declared.fault.LinkFault.{LinkFault}
 use Rattle.link.specs.Blocks.{message_series, stream, Tells, Encoded, Inverted}
 use Rattle.link.specs.Guarantees.{EncodesMessage, TellsEncoded, BringsHome, OneSymbolChangesFew}
 use Rattle.link.specs.Questions.{link_questions, symbols_in}
-use Rattle.runs.specs.declared.request.Design.{Design}
-use Rattle.runs.specs.declared.request.Design.TheVariants as standing
-use Rattle.runs.specs.declared.request.Request.{Request}
-use Rattle.runs.specs.declared.request.Request.TheVariants as asked
-use Rattle.runs.specs.declared.request.Answer.{Answer}
-use Rattle.runs.specs.declared.request.Answer.TheVariants as answered
+use Rattle.history.specs.declared.request.Design.{Design}
+use Rattle.history.specs.declared.request.Design.TheVariants as standing
+use Rattle.history.specs.declared.request.Request.{Request}
+use Rattle.history.specs.declared.request.Request.TheVariants as asked
+use Rattle.history.specs.declared.request.Answer.{Answer}
+use Rattle.history.specs.declared.request.Answer.TheVariants as answered
 
 -- a design with its two tables
 pub record Held (F : Type 0) : Type 0 where

@@ -1,7 +1,7 @@
 // Answers as text.
 use fields::fault::{Refusal, RefusalText};
 use fields::field::Field;
-use runs::request::Answer;
+use history::request::Answer;
 use std::fmt;
 use texts::list::SymbolsText;
 use texts::verdict::VerdictText;

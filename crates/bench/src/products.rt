@@ -1,5 +1,5 @@
 // A million products in each field.
-use crate::bench::Bench;
+use crate::measure::Bench;
 use fields::fault::FieldFault;
 use fields::field::Field;
 use nibbles::Nibble;
@@ -25,7 +25,7 @@ fn run<F: Field>(bench: &Bench<'_>, name: &str, first: u32, second: u32) -> io::
 }
 
 // A chain in each field.
-pub fn run_products(bench: &Bench<'_>) -> io::Result<()> {
+pub(crate) fn run_products(bench: &Bench<'_>) -> io::Result<()> {
     run::<Tone>(bench, "tones", 3, 11)?;
     run::<Nibble>(bench, "nibbles", 2, 9)?;
     run::<Byte>(bench, "bytes", 16, 77)?;

@@ -3,9 +3,9 @@
 // would borrow both again before it lends them on: that is no shorter.
 ghost use Rattle.std.specs.Prelude.{◌≡◌, Ok as Granted, Err as Refused, MatchResult};
 ghost use Rattle.fields.specs.Elements.{code_of};
-ghost use Rattle.runs.specs.Steps.{Step, held};
-ghost use Rattle.runs.specs.declared.request.Design.TheVariants.{Draft as ADraft, Framed as AFramed};
-ghost use Rattle.runs.specs.declared.request.Request.TheVariants.{Reopen};
+ghost use Rattle.history.specs.Steps.{Step, held};
+ghost use Rattle.history.specs.declared.request.Design.TheVariants.{Draft as ADraft, Framed as AFramed};
+ghost use Rattle.history.specs.declared.request.Request.TheVariants.{Reopen};
 
 use crate::request::{Answer, Design, Request};
 use design::draft::Draft;

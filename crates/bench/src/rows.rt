@@ -1,7 +1,7 @@
 // The greatest common divisor of a row of 8 generators of degree 16.
 ghost use Rattle.std.specs.Prelude.{◌≡◌, length};
 
-use crate::bench::Bench;
+use crate::measure::Bench;
 use fields::field::Field;
 use frames::row::{Degrees, divide_by_gcd};
 use random::Random;
@@ -51,7 +51,7 @@ fn run<F: Field>(
 }
 
 // A row of tones, and one of bytes.
-pub fn run_rows(bench: &Bench<'_>) -> io::Result<()> {
+pub(crate) fn run_rows(bench: &Bench<'_>) -> io::Result<()> {
     let mut generators = [Tone::zero(); GENERATORS];
     let mut work = [Tone::zero(); WORK];
     run(bench, "rows of tones", &mut generators, &mut work)?;

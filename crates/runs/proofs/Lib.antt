@@ -1,2 +1,0 @@
-pub mod Safe
-pub mod Lent
