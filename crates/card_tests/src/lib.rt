@@ -15,9 +15,14 @@ mod tests {
     use tones::Tone;
 
     // Number, layer and place of the refusal, which docs/refusals.md promises, if there is one.
-    fn refusal(card: &[u8]) -> Option<(u8, u8, usize)> {
-        let fault = read_card(card, &mut [Tone::T7; GENERATORS]).err()?;
+    fn refused_into(card: &[u8], table: &mut [Tone]) -> Option<(u8, u8, usize)> {
+        let fault = read_card(card, table).err()?;
         Some((fault.number(), fault.layer().number(), fault.place()))
+    }
+
+    // The same with a table of the right length.
+    fn refusal(card: &[u8]) -> Option<(u8, u8, usize)> {
+        refused_into(card, &mut [Tone::T7; GENERATORS])
     }
 
     #[test]
@@ -45,12 +50,23 @@ mod tests {
         assert_eq!(rt; refusal(&[1, 2, 1, 1, 0, 3, 1, 0, 2]), Some((15, 2, 8)));
         // A chain that would run in a circle.
         assert_eq!(rt; refusal(&[1, 2, 1, 1, 0, 3, 1, 0, 1]), Some((16, 2, 5)));
+        // Two records of one chain, whose second power falls, and stays.
+        assert_eq!(rt;
+            refusal(&[1, 2, 2, 1, 0, 3, 1, 0, 2, 2, 1, 0, 0]),
+            Some((16, 2, 9))
+        );
+        assert_eq!(rt;
+            refusal(&[1, 2, 2, 1, 0, 3, 1, 0, 2, 3, 1, 0, 0]),
+            Some((16, 2, 9))
+        );
     }
 
     #[test]
     fn cards_that_pass(rt: HostRuntime) {
         // No records.
         assert_eq!(rt; refusal(&[1, 2, 0, 0, 0]), None);
+        // Two records of one chain, with rising powers.
+        assert_eq!(rt; refusal(&[1, 2, 2, 1, 0, 3, 1, 0, 2, 4, 1, 0, 0]), None);
         // Two chains share a record.
         assert_eq!(rt; refusal(&[1, 2, 1, 1, 1, 3, 5, 0, 0]), None);
         // A record that no chain reaches is not read.
@@ -67,17 +83,24 @@ mod tests {
         assert_eq!(rt; table[20].code(), 5);
         assert_eq!(rt; table[4].code(), 0);
         assert_eq!(rt; table[135].code(), 0);
-        // Number 1 of docs/refusals.md: a table has not its exact length.
-        let mut short = [Tone::T7; 135];
-        let mut long = [Tone::T7; 137];
+        // Asked before the card is: a table has not its exact length.
+        assert_eq!(rt; refused_into(&[], &mut [Tone::T7; 135]), Some((1, 3, 0)));
+        assert_eq!(rt; refused_into(&[], &mut [Tone::T7; 137]), Some((1, 3, 0)));
+    }
+
+    // The card of (s^2, 1 + s).
+    #[test]
+    fn the_worked_card(rt: HostRuntime) {
+        let mut table = [Tone::T7; GENERATORS];
+        let card = [1, 2, 3, 1, 2, 2, 1, 0, 0, 0, 1, 0, 3, 1, 1, 0, 0];
         assert_eq!(rt;
-            read_card(&[], &mut short).err().map(|fault| fault.number()),
-            Some(1)
+            read_card(&card, &mut table).map(|draft| draft.count()),
+            Ok(2)
         );
-        assert_eq!(rt;
-            read_card(&[], &mut long).err().map(|fault| fault.number()),
-            Some(1)
-        );
+        for (place, x) in table.iter().enumerate() {
+            let one = [2, 17, 18].contains(&place);
+            assert_eq!(rt; x.code(), u16::from(one));
+        }
     }
 
     // Puts the code 30 at each power of each generator.

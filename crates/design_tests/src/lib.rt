@@ -54,6 +54,10 @@ mod tests {
             refusal(write_card(&draft, &short, &mut [0u8; CARD])),
             Some(1)
         );
+        assert_eq!(rt;
+            refusal(write_card(&draft, &long, &mut [0u8; CARD])),
+            Some(1)
+        );
         assert_eq!(rt; refusal(write_card(&draft, &table, &mut small)), Some(1));
         assert_eq!(rt; refusal(write_card(&draft, &table, &mut large)), Some(1));
         Ok(())

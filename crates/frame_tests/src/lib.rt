@@ -5,8 +5,10 @@
 mod tests {
     use design::draft::Draft;
     use design::fault::DesignFault;
+    use design::framed::Framed;
     use fields::fault::Refusal;
     use fields::field::Field;
+    use std::alloc::Global;
     use std::process::Abort;
     use std::test::Fail;
     use tables::sizes::{GENERATORS, MAX_COUNT};
@@ -34,7 +36,7 @@ mod tests {
     }
 
     #[test]
-    fn worked_designs_over_tones(rt: HostRuntime) -> Result<(), Fail> {
+    fn designs_of_least_degree(rt: HostRuntime) -> Result<(), Fail> {
         // (1, s): (1, 0), (s, 30)
         frames_to::<Tone>(
             &rt,
@@ -45,6 +47,20 @@ mod tests {
             &[(0, 1), (137, 1), (153, 30), (1088, 1)],
             256,
         )?;
+        // (0, 5): (0, 25), (1, 0)
+        frames_to::<Tone>(
+            &rt,
+            Design {
+                n: 2,
+                terms: &[Term(1, 0, 5)],
+            },
+            &[(17, 25), (136, 1), (1088, 1)],
+            0,
+        )
+    }
+
+    #[test]
+    fn worked_designs_over_tones(rt: HostRuntime) -> Result<(), Fail> {
         // (s, s + 1): (30, 1), (30 + 30s, s)
         frames_to::<Tone>(
             &rt,
@@ -82,16 +98,6 @@ mod tests {
                 (1088, 1),
             ],
             513,
-        )?;
-        // (0, 5): (0, 25), (1, 0)
-        frames_to::<Tone>(
-            &rt,
-            Design {
-                n: 2,
-                terms: &[Term(1, 0, 5)],
-            },
-            &[(17, 25), (136, 1), (1088, 1)],
-            0,
         )
     }
 
@@ -185,6 +191,11 @@ mod tests {
         Ok(())
     }
 
+    // The number of the refusal, which docs/refusals.md promises, if there is one.
+    fn number<T: Drop>(r: Result<T, DesignFault>) -> Option<u8> {
+        Some(r.err()?.number())
+    }
+
     // The refusal of a frame of 2 generators that are all zero, with tables of these lengths.
     // It stands apart from its like in offer_tests, which lends one table more and compares the work table too.
     fn refused(
@@ -203,6 +214,9 @@ mod tests {
         };
         assert_eq!(rt; back.design.count(), 2);
         assert_eq!(rt; code_at(&frame, 0), Some(7));
+        // The work table is zero after the refusal by 6, and untouched after the refusal by 1.
+        let left = if back.fault.number() == 6 { 0 } else { 7 };
+        assert!(rt; work.iter().all(|x| x.code() == left));
         Ok(back.fault)
     }
 
@@ -220,6 +234,55 @@ mod tests {
         ] {
             assert_eq!(rt; refused(&rt, generators, frame, work)?.number(), number);
         }
+        Ok(())
+    }
+
+    // The framed design (1, s), and its frame table.
+    fn framed(heap: Global) -> Result<(Framed, Vec<Tone>), Fail> {
+        let mut tables = Tables::full_of(heap, Tone::T0)?;
+        let design = Design {
+            n: 2,
+            terms: &[Term(0, 0, 1), Term(1, 1, 1)],
+        };
+        let draft = design.enter(&mut tables.generators)?;
+        match draft.frame(&tables.generators, &mut tables.frame, &mut tables.work) {
+            Ok(framed) => Ok((framed, tables.frame)),
+            Err(_) => Err(Fail::new("refused")),
+        }
+    }
+
+    #[test]
+    fn columns_are_parts_of_the_frame(rt: HostRuntime) -> Result<(), Fail> {
+        let (framed, frame) = framed(rt.alloc())?;
+        // The lengths are asked before the numbers.
+        for long in [1104, 1106] {
+            let table = vec![in rt.alloc(); Tone::T7; long]?;
+            assert_eq!(rt; number(framed.column(&table, 2, 2)), Some(1));
+        }
+        assert_eq!(rt; number(framed.column(&frame, 2, 0)), Some(3));
+        assert_eq!(rt; number(framed.column(&frame, 0, 2)), Some(3));
+        // Component 1 of column 1 is 30.
+        let component = framed.column(&frame, 1, 1)?;
+        assert_eq!(rt; component.len(), 17);
+        assert!(rt; holds(component, &[(0, 30)]));
+        Ok(())
+    }
+
+    #[test]
+    fn reopening_clears_the_frame(rt: HostRuntime) -> Result<(), Fail> {
+        let (mut framed, mut frame) = framed(rt.alloc())?;
+        for long in [1104, 1106] {
+            let mut table = vec![in rt.alloc(); Tone::T7; long]?;
+            let Err(back) = framed.reopen(&mut table) else {
+                return Err(Fail::new("granted"));
+            };
+            assert_eq!(rt; back.fault.number(), 1);
+            assert!(rt; table.iter().all(|x| x.code() == 7));
+            framed = back.design;
+        }
+        assert_eq!(rt; framed.generators(), 2);
+        assert!(rt; framed.reopen(&mut frame).is_ok());
+        assert_eq!(rt; sum_of_codes(&frame), 0);
         Ok(())
     }
 }

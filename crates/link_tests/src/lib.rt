@@ -59,7 +59,8 @@ mod tests {
         }
     }
 
-    // What encode answers for a message and a block of so many symbols, a refusal by the number that docs/refusals.md promises.
+    // What encode answers for a message and a block of so many symbols, a refusal by the number that docs/refusals.md promises. A refusal
+    // leaves the block as it was.
     fn encodes(
         rt: &(impl Abort + AllocGlobal),
         station: &Station<Tone>,
@@ -70,6 +71,26 @@ mod tests {
             let mut block = vec![in rt.alloc(); Tone::T0; *long]?;
             let answered = station.encode(&message, &mut block);
             assert_eq!(rt; answered.map_err(|fault| fault.number()), *answer);
+            assert!(rt; answer.is_ok() || block.iter().all(|x| x.code() == 0));
+        }
+        Ok(())
+    }
+
+    // What invert answers for a block and a message of so many symbols, a refusal by the number that docs/refusals.md promises. A refusal
+    // leaves the message as it was.
+    fn inverts(
+        rt: &(impl Abort + AllocGlobal),
+        station: &Station<Tone>,
+        cases: &[(usize, usize, Result<(), u8>)],
+    ) -> Result<(), Fail> {
+        for (symbols, long, answer) in cases {
+            let block = vec![in rt.alloc(); Tone::T0; *long]?;
+            let mut message = vec![in rt.alloc(); Tone::T4; *symbols]?;
+            let answered = station.invert(&block, &mut message);
+            assert_eq!(rt; answered.map_err(|fault| fault.number()), *answer);
+            // Of a block of zeros comes a message of zeros.
+            let left = if answer.is_ok() { 0 } else { 4 };
+            assert!(rt; message.iter().all(|x| x.code() == left));
         }
         Ok(())
     }
@@ -91,17 +112,15 @@ mod tests {
     #[test]
     fn lengths_and_divisors(rt: HostRuntime) -> Result<(), Fail> {
         let tones = Station::open(&rt, APART)?;
-        encodes(
-            &rt,
-            &tones,
-            &[
-                (1, 6, Ok(())),
-                (4096, 8196, Ok(())),
-                (0, 4, Err(12)),
-                (4097, 8198, Err(12)),
-                (1, 7, Err(12)),
-            ],
-        )?;
+        let cases = [
+            (1, 6, Ok(())),
+            (4096, 8196, Ok(())),
+            (0, 4, Err(12)),
+            (4097, 8198, Err(12)),
+            (1, 7, Err(12)),
+        ];
+        encodes(&rt, &tones, &cases)?;
+        inverts(&rt, &tones, &cases)?;
         checks(
             &rt,
             &tones,
@@ -116,6 +135,7 @@ mod tests {
         )?;
         let shared = Station::open(&rt, SHARED)?;
         encodes(&rt, &shared, &[(1, 4, Err(11))])?;
+        inverts(&rt, &shared, &[(1, 4, Err(11))])?;
         checks(&rt, &shared, &[(4, Err(11))])
     }
 

@@ -1,4 +1,4 @@
-// The program: a walk-through of every call, or a script.
+// The program: a walk-through, or a script.
 #![tactic(auto)]
 
 mod answer;

@@ -1,6 +1,8 @@
-// The walk-through: one design over the tones, from its codes to its card, its frame and the link.
+// The walk-through: a design over the tones, from its codes to its card, its frame and the link; then one whose generators have a common
+// factor.
 use crate::station::{Answered, Station};
 use anyhow::anyhow;
+use design::framed::Framed;
 use fields::field::Field;
 use history::request::{Answer, Design, Request};
 use std::alloc::Global;
@@ -41,21 +43,27 @@ fn enter(rt: &HostRuntime, station: Station, entries: &[Entry]) -> anyhow::Resul
     Ok(station)
 }
 
+// Shows a frame, and what it means for one hit where the link carries the design.
+fn show(rt: &HostRuntime, framed: &Framed, frame: &[Tone]) -> anyhow::Result<()> {
+    print!(rt; "{}", ColumnsText { framed, frame })?;
+    println!(rt; "No Bezout vector is shorter than column 0.")?;
+    if framed.divisor_degree() == 0 {
+        println!(rt;
+            "So one hit on the air spoils at most {} of a message's symbols.",
+            spoiled(framed)
+        )?;
+    }
+    Ok(())
+}
+
 // Frames a design and shows its frame.
 fn frame(rt: &HostRuntime, station: Station) -> anyhow::Result<Station> {
+    println!(rt; "The design is framed:")?;
     let work = vec![in rt.alloc(); Tone::T0; WORK]?;
     let requests = vec![in rt.alloc(); Request::Frame { work }]?;
     let Answered { station, .. } = station.run(rt, &["frame"], requests)?;
     if let Design::Framed(framed) = &station.design {
-        let columns = ColumnsText {
-            framed,
-            frame: &station.frame,
-        };
-        print!(rt; "{columns}")?;
-        println!(rt;
-            "No Bezout vector is shorter than column 0: one hit on the air spoils at most {} of a message's symbols.",
-            spoiled(framed)
-        )?;
+        show(rt, framed, &station.frame)?;
     }
     Ok(station)
 }
@@ -191,7 +199,7 @@ fn first_design(rt: &HostRuntime) -> anyhow::Result<Station> {
     Ok(station)
 }
 
-// Every call, once.
+// The walk-through, whole.
 pub fn walk(rt: &HostRuntime) -> anyhow::Result<()> {
     let station = first_design(rt)?;
     let station = frame(rt, station)?;
