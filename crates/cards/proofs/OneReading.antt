@@ -1,12 +1,15 @@
--- A card has one reading: a chain has one list of terms, and no refusal. Assumes nothing.
-use Rattle.std.proofs.Common.{◌≡◌, ℕ, zero, suc, ◌+◌, ◌<◌, ◌≤◌, Bool, true, ltb, leb, List, [], ◌∷◌, length, get_or, None, sym, refl, ap, ◌∙◌, subst, ap₂, arith, lt-ltb, le-leb}
+-- A card has one reading: a chain has one list of terms, and no refusal; a refusal is the only one. Assumes nothing.
+use Rattle.std.proofs.Common.{◌≡◌, ℕ, zero, suc, ◌+◌, ◌<◌, ◌≤◌, Bool, true, ltb, leb, List, [], ◌∷◌, length, get_or, None, Some, Ok, Err, Result, MatchResult, sym, refl, ap, ◌∙◌, subst, ap₂, arith, lt-ltb, le-leb}
+use Rattle.std.proofs.lemmas.Option.{none-some, same_Some}
+use Rattle.std.specs.Result.{result_err}
+use Rattle.algebra.specs.Rings.{RingOps}
 use Rattle.fields.specs.Questions.{Question, asks, first_no}
 use Rattle.fields.specs.declared.fault.FieldFault.TheVariants.{CodeTooLarge}
 use Rattle.cards.specs.declared.fault.CardFault.{CardFault}
 use Rattle.cards.specs.declared.fault.CardFault.TheVariants.{PowerTooHigh, PowerNotAbove, Field, ZeroCode}
 use Rattle.cards.specs.Cards.{Term}
 use Rattle.cards.specs.Chains.{byte, record_start, code_at, Names, Chain, Chains}
-use Rattle.cards.specs.Reading.{link_questions, Stops, Halted}
+use Rattle.cards.specs.Reading.{read_questions, link_questions, Stops, Halted, Gathered, Refuses, Refuses.asked, Refuses.walked}
 use Rattle.cards.proofs.Walks.{link_record, link_zero}
 
 term_path : (t u : Term) → t.power ≡ u.power → t.code ≡ u.code → t ≡ u
@@ -68,3 +71,35 @@ module _ (order : ℕ) (card : List ℕ) where
   chains_never_halt gs f e c h =
       chain_never_stops 0 (3 + length h.passed) (get_or gs (length h.passed) []) h.terms f
       (chain_of 3 (3 + length h.passed) (length h.passed) gs refl (let l = h.fewer in omega arith) c) h.stops
+
+  -- a walk is stopped by one refusal
+  stops_once : (floor place : ℕ) (ts us : List Term) (f g : CardFault) → Stops order card ts floor place f → Stops order card us floor place g → f ≡ g
+  stops_once floor place [] [] f g a b = same_Some f g (sym a ∙ b)
+  stops_once floor place [] (u ∷ us) f g a b = absurd (none-some f (sym (named_none floor place u b.0) ∙ a))
+  stops_once floor place (t ∷ ts) [] f g a b = absurd (none-some g (sym (named_none floor place t a.0) ∙ b))
+  stops_once floor place (t ∷ ts) (u ∷ us) f g a b =
+      let same : t ≡ u = names_once floor floor place t u a.0 b.0 in
+      stops_once (suc t.power) (record_start card place + 3) ts us f g a.1 (subst (λ (x : Term). Stops order card us (suc x.power) (record_start card place + 3) g) (sym same) b.1)
+
+  -- the walks from a head on, the passed chains before the one that is stopped
+  halts_once : (place p q : ℕ) (gs hs : List (List Term)) (ts us : List Term) (f g : CardFault) → p ≡ place + length gs → q ≡ place + length hs
+      → Chains order card place gs → Stops order card ts 0 p f → Chains order card place hs → Stops order card us 0 q g → f ≡ g
+  halts_once place p q [] [] ts us f g e h cs a ds b =
+      stops_once 0 p ts us f g a (subst (λ (r : ℕ). Stops order card us 0 r g) (let same : q ≡ p = omega arith in same) b)
+  halts_once place p q [] (d ∷ ds) ts us f g e h _ a c b =
+      absurd (chain_never_stops 0 place d ts f c.0 (subst (λ (r : ℕ). Stops order card ts 0 r f) (let same : p ≡ place = omega arith in same) a))
+  halts_once place p q (d ∷ ds) [] ts us f g e h c a _ b =
+      absurd (chain_never_stops 0 place d us g c.0 (subst (λ (r : ℕ). Stops order card us 0 r g) (let same : q ≡ place = omega arith in same) b))
+  halts_once place p q (d ∷ ds) (d' ∷ ds') ts us f g e h c a c' b = halts_once (suc place) p q ds ds' ts us f g (omega arith) (omega arith) c.1 a c'.1 b
+
+  halted_once : (f g : CardFault) → Halted order card f → Halted order card g → f ≡ g
+  halted_once f g a b = halts_once 3 _ _ a.passed b.passed a.terms b.terms f g refl refl a.chains a.stops b.chains b.stops
+
+-- where the card passes its first questions, what the walk answers is the only answer
+pub walked_once : {F R D : Type 0} (o : RingOps R) (member : F → R) (number : R → ℕ) (order kind : ℕ) (card : List ℕ) (long : ℕ) (after : List F) (P : D → Type 0) (Q : CardFault → Type 0)
+    → (r : Result D CardFault) → first_no (read_questions kind long card) ≡ None
+    → MatchResult r (λ d. P d × Gathered o member number order card (byte card 1) after) (λ f. Halted order card f × Q f)
+    → (g : CardFault) → Refuses order kind card long g → result_err r ≡ Some g
+walked_once o member number order kind card long after P Q r passed m g (asked a) = absurd (none-some g (sym passed ∙ a))
+walked_once o member number order kind card long after P Q (Ok d) passed m g (walked _ b) = absurd (chains_never_halt order card m.1.generators g m.1.count m.1.chains b)
+walked_once o member number order kind card long after P Q (Err f) passed m g (walked _ b) = ap (λ x. Some x) (halted_once order card f g m.0 b)

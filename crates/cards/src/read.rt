@@ -1,10 +1,11 @@
 // Reading a card.
-ghost use Rattle.std.specs.Prelude.{◌≡◌, ℕ, ◌+◌, ◌*◌, ◌<◌, ◌≤◌, List, length, IfOk, MatchResult, MatchOption, OnOk};
+ghost use Rattle.std.specs.Prelude.{◌≡◌, ℕ, ◌+◌, ◌*◌, ◌<◌, ◌≤◌, List, length, Some, IfOk, MatchResult, MatchOption, OnOk};
 ghost use Rattle.std.specs.Result.{result_err};
 ghost use Rattle.fields.specs.Questions.{first_no};
 ghost use Rattle.tables.specs.Places.{at, Cleared};
 ghost use Rattle.tables.specs.declared.sizes.TheConstants.{HIGHEST, MAX_COUNT};
 ghost use Rattle.cards.specs.declared.sizes.TheConstants.{HEADER, RECORD};
+ghost use Rattle.cards.specs.declared.fault.CardFault.{CardFault};
 ghost use Rattle.cards.specs.declared.fault.CardFault.TheVariants.{NoSuchRecord};
 ghost use Rattle.cards.specs.Cards.{Term};
 ghost use Rattle.cards.specs.Chains.{byte, code_at, record_start};
@@ -164,7 +165,8 @@ fn take_design<F: Field>(
 
 // Reads a card: gives its draft, and writes its generators, zero off the terms.
 pub fn read_card<F: Field>(card: &[u8], generators: &mut [F]) -> Result<Draft, CardFault>
-    ensures { MatchResult result (λ d. Grants F.ops F.member F.number F.order F.tag card.now (length generators.old) d.n generators.new) (λ f. Refuses F.order F.tag card.now (length generators.old) f × (generators.new ≡ generators.old)) }
+    ensures answer { MatchResult result (λ d. Grants F.ops F.member F.number F.order F.tag card.now (length generators.old) d.n generators.new) (λ f. Refuses F.order F.tag card.now (length generators.old) f × (generators.new ≡ generators.old)) }
+    ensures only { (g : CardFault) → Refuses F.order F.tag card.now (length generators.old) g → result_err result ≡ Some g }
 {
     let parsed = Card::parse::<F>(card, generators.len())?;
     let mut table = [F::zero(); GENERATORS];
