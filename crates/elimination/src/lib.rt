@@ -9,7 +9,7 @@ ghost use Rattle.elimination.specs.Steps.{reduced, column_at, entry_at, rank_aft
 use crate::step::{find_pivot, record_step, reduce};
 use fields::field::Field;
 
-pub mod step;
+mod step;
 mod take;
 
 // The steps found so far, in lent tables: the numbers of step t from rows * t on, and its pivot row at place t.

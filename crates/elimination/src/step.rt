@@ -1,4 +1,4 @@
-// One step of elimination on a column. `reduce` and `record_step` take the fields of `Steps` one by one: both are public, and stay.
+// One step of elimination on a column. Its clauses say what the code does; what it is for stands on the methods of `Steps`.
 ghost use Rattle.std.specs.Prelude.{◌≡◌, ℕ, ◌+◌, ◌*◌, ◌<◌, ◌≤◌, length, MatchOption};
 ghost use Rattle.tables.specs.Places.{at};
 ghost use Rattle.elimination.specs.Steps.{step as after_step, reduced, column_at, entry_at, write, AreSteps, IsPivot};
@@ -7,7 +7,7 @@ use fields::field::Field;
 use tables::rows::add_multiple;
 
 // Performs step t, whose pivot row is p, on a column.
-pub fn apply_step<F: Field>(factors: &[F], t: usize, p: usize, column: &mut [F])
+pub(crate) fn apply_step<F: Field>(factors: &[F], t: usize, p: usize, column: &mut [F])
     requires sized { length factors.now ≡ length column.old }
     requires within { (t < length column.old) × (p < length column.old) }
     ensures { at F.ops F.member column.new ≡ after_step F.ops (at F.ops F.member factors.now) t p (at F.ops F.member column.old) }
@@ -29,7 +29,7 @@ fn factors_of<F: Field>(rows: usize, steps: &[F], t: usize) -> &[F]
 }
 
 // Brings a column up to date by the first steps. No `zip` with the chunks of the factors, since chunks of no rows are refused.
-pub fn reduce<F: Field>(rows: usize, rank: usize, factors: &[F], pivots: &[usize], column: &mut [F])
+pub(crate) fn reduce<F: Field>(rows: usize, rank: usize, factors: &[F], pivots: &[usize], column: &mut [F])
     requires room { (rows * rank ≤ length factors.now) × ((rank ≤ length pivots.now) × (length column.old ≡ rows)) }
     requires valid { AreSteps F.ops rows rank (column_at F.ops F.member rows factors.now) (entry_at pivots.now) }
     ensures { at F.ops F.member column.new ≡ reduced F.ops (column_at F.ops F.member rows factors.now) (entry_at pivots.now) rank (at F.ops F.member column.old) }
@@ -41,13 +41,13 @@ pub fn reduce<F: Field>(rows: usize, rank: usize, factors: &[F], pivots: &[usize
 
 // A row in which a column has an entry that is not zero, and the inverse of the entry.
 #[derive(Clone, Copy)]
-pub struct Pivot<F: Field> {
+pub(crate) struct Pivot<F: Field> {
     pub row: usize,
     pub inverse: F,
 }
 
 // The first pivot of a column from a row on.
-pub fn find_pivot<F: Field>(column: &[F], rank: usize) -> Option<Pivot<F>>
+pub(crate) fn find_pivot<F: Field>(column: &[F], rank: usize) -> Option<Pivot<F>>
     ensures { MatchOption result ((k : ℕ) → rank ≤ k → at F.ops F.member column.now k ≡ F.ops.zero) (λ p. IsPivot F.ops (length column.now) rank (at F.ops F.member column.now) p.row (F.member p.inverse)) }
 {
     let mut entries = column.iter().enumerate().skip(rank);
@@ -55,7 +55,7 @@ pub fn find_pivot<F: Field>(column: &[F], rank: usize) -> Option<Pivot<F>>
 }
 
 // Writes the numbers of the step of a reduced column and its pivot behind those of the first steps.
-pub fn record_step<F: Field>(
+pub(crate) fn record_step<F: Field>(
     rows: usize,
     rank: usize,
     factors: &mut [F],

@@ -10,7 +10,7 @@ use tables::sizes::MAX_COUNT;
 
 // The steps of the pivotal places, these places in order, the classes of the basic places, and how many of these there are. Each list is
 // written into the column. The frame is no part of it: it is lent to each call, whose caller learns what it holds then.
-// The places and the classes are arrays of fixed size, the places with their count in the steps: no memory is allocated below `runs`.
+// The places and the classes are arrays of fixed size, the places with their count in the steps: no memory is allocated below `history`.
 #[derive(Drop)]
 pub struct Walk<'a, F: Field> {
     pub row: Row<'a, F>,

@@ -24,5 +24,6 @@ pub const COLUMNS: usize = MAX_COUNT * GENERATORS;
 // The frame table: the columns, and behind them the divisor.
 pub const FRAME: usize = COLUMNS + WIDTH;
 
-// The work table: a row as long as a product for each coefficient of the generators, and one more; `frames::row` says what lies where.
+// The work table: so many rows as the generators have coefficients, and one more, each as long as a product. `frames::row` says where the
+// divisor and the divided row lie in it.
 pub const WORK: usize = PRODUCT * (GENERATORS + 1);
