@@ -2,6 +2,9 @@
 #![tactic(auto)]
 
 #[cfg(test)]
+mod columns;
+
+#[cfg(test)]
 mod tests {
     use design::draft::Draft;
     use design::fault::DesignFault;
@@ -182,6 +185,23 @@ mod tests {
         assert_eq!(rt; code_at(&tables.frame, 34), Some(1));
         let column = tables.frame.get(..GENERATORS).unwrap_or(&[]);
         assert_eq!(rt; sum_of_codes(column), 1);
+        Ok(())
+    }
+
+    #[test]
+    fn reopening_clears_the_frame(rt: HostRuntime) -> Result<(), Fail> {
+        let mut tables = Tables::full_of(rt.alloc(), Tone::T0)?;
+        let design = Design {
+            n: 2,
+            terms: &[Term(0, 0, 1), Term(1, 1, 1)],
+        };
+        let draft = design.enter(&mut tables.generators)?;
+        let Ok(framed) = draft.frame(&tables.generators, &mut tables.frame, &mut tables.work) else {
+            return Err(Fail::new("refused"));
+        };
+        assert_eq!(rt; code_at(&tables.frame, 0), Some(1));
+        assert!(rt; framed.reopen(&mut tables.frame).is_ok());
+        assert_eq!(rt; sum_of_codes(&tables.frame), 0);
         Ok(())
     }
 
