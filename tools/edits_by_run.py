@@ -13,27 +13,27 @@ ROOT = pathlib.Path(__file__).resolve().parent.parent
 
 # For each crate the test crates and programs that reach its functions, nearest and shortest first.
 NEAREST = {
-    "fields": "field_tests design_tests card_tests script_run",
-    "tones": "field_tests frame_tests",
+    "fields": "card_tests link_tests",
+    "tones": "field_tests",
     "nibbles": "field_tests",
     "pairs": "field_tests",
     "towers": "field_tests",
     "tables": "frame_tests gcd_tests",
     "polynomials": "frame_tests gcd_tests",
     "frames": "frame_tests gcd_tests",
-    "elimination": "frame_tests offer_tests",
-    "scan": "frame_tests offer_tests",
-    "framing": "frame_tests offer_tests",
+    "elimination": "frame_tests",
+    "scan": "frame_tests",
+    "framing": "frame_tests link_tests",
     "judging": "offer_tests",
-    "design": "design_tests frame_tests offer_tests script_run",
-    "link": "link_tests script_run",
-    "cards": "card_tests script_run",
-    "history": "script_run tonelink",
-    "random": "gcd_tests link_tests",
+    "design": "design_tests frame_tests offer_tests link_tests script_run",
+    "link": "link_tests",
+    "cards": "card_tests design_tests",
+    "history": "script_run",
+    "random": "link_tests",
     "walkthrough": "tonelink",
     "scripts": "script_tests script_run",
-    "test_support": "frame_tests offer_tests link_tests",
-    "trial_support": "link_tests trials",
+    "test_support": "frame_tests offer_tests",
+    "trial_support": "link_tests",
 }
 
 
@@ -94,13 +94,14 @@ def differing_line(crate, out):
 
 
 def notice(crate, folder):
-    """What a run shows, and if it shows nothing since it has no answer, the reason: an error of the compiler or a run past its limits."""
+    """What a run shows, and if it has no answer, the reason: an error of the compiler or a run past its limits."""
     is_program, out, notes = run(crate, folder)
     fault = re.search(r"^checked: (fault kind=.*?)(?=, called from|$)", notes, re.M)
-    if not re.search(r"^run=(ended|fault) ", notes, re.M):
-        return None, f" ({crate}: {notes.strip()[-200:]})"
-    if not is_program:
+    found = None
+    if "\ntest result:" in out + notes:
         found = failed_test(out + notes)
+    elif not is_program or not re.search(r"^run=(ended|fault) ", notes, re.M):
+        return None, f" ({crate}: {notes.strip()[-200:]})"
     elif fault:
         found = f"stopped, {fault[1]}"
     else:
@@ -113,26 +114,23 @@ def noticed(path, folder):
     file, text = edited(path, folder)
     before, doubts = file.read_text(), ""
     file.write_text(text)
-    try:
-        for crate in NEAREST[path.parent.parent.name].split():
-            words, doubt = notice(crate, folder)
-            if words:
-                return words
-            doubts += doubt
-    finally:
-        file.write_text(before)
-    return "NOT NOTICED" + doubts
+    for crate in NEAREST[path.parent.parent.name].split():
+        words, doubt = notice(crate, folder)
+        doubts += doubt
+        if words:
+            break
+    file.write_text(before)
+    return words or "NOT NOTICED" + doubts
 
 
 def main():
-    for crate in NEAREST:
-        for path in sorted((ROOT / "crates" / crate / "must-fail").glob("*.edit")):
-            name = f"{crate}/{path.stem}"
-            if len(sys.argv) == 1 or {crate, name} & set(sys.argv[1:]):
-                print(f"{name}: {noticed(path, FOLDER)}", flush=True)
+    with tempfile.TemporaryDirectory() as made:
+        folder = pathlib.Path(made)
+        copy(folder)
+        for path in sorted(ROOT.glob("crates/*/must-fail/*.edit")):
+            crate = path.parent.parent.name
+            if len(sys.argv) == 1 or {crate, f"{crate}/{path.stem}"} & set(sys.argv[1:]):
+                print(f"{crate}/{path.stem}: {noticed(path, folder)}", flush=True)
 
 
-with tempfile.TemporaryDirectory() as made:
-    FOLDER = pathlib.Path(made)
-    copy(FOLDER)
-    main()
+main()

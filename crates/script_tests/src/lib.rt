@@ -6,6 +6,7 @@ mod tests {
     use scripts::call::{Call, FieldName, Keyword};
     use scripts::line::{Expected, Line, read_line};
     use scripts::number::number;
+    use scripts::words::{Mark, Pieces};
     use std::alloc::{AllocError, Global};
     use std::test::Fail;
 
@@ -63,6 +64,16 @@ mod tests {
         assert_eq!(rt; number(b"-1"), None);
         assert_eq!(rt; number(b"1x"), None);
         assert_eq!(rt; number(b"x1"), None);
+    }
+
+    // One after the other, told apart by their lengths.
+    #[test]
+    fn pieces_of_a_text(rt: HostRuntime) {
+        let mut pieces = Pieces::of(b"1,23,", Mark::Comma);
+        assert_eq!(rt; pieces.next().map(|piece| piece.len()), Some(1));
+        assert_eq!(rt; pieces.next().map(|piece| piece.len()), Some(2));
+        assert_eq!(rt; pieces.next().map(|piece| piece.len()), Some(0));
+        assert!(rt; pieces.next().is_none());
     }
 
     #[test]
