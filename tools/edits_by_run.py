@@ -112,9 +112,9 @@ def notice(crate, folder):
 def noticed(path, folder):
     """The first notice of an edit."""
     file, text = edited(path, folder)
-    before, doubts = file.read_text(), ""
+    before, words, doubts = file.read_text(), None, ""
     file.write_text(text)
-    for crate in NEAREST[path.parent.parent.name].split():
+    for crate in NEAREST.get(path.parent.parent.name, "").split():
         words, doubt = notice(crate, folder)
         doubts += doubt
         if words:

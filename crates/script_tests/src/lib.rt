@@ -30,6 +30,10 @@ mod tests {
         Ok(matches!(read_line(heap, line)?, Line::Blank))
     }
 
+    fn is_frame(heap: Global, line: &[u8]) -> Result<bool, AllocError> {
+        Ok(matches!(read_line(heap, line)?, Line::Call(Call::Frame)))
+    }
+
     // The numbers of a put.
     fn put(heap: Global, line: &[u8]) -> Result<Option<(u32, u32, u32)>, AllocError> {
         match read_line(heap, line)? {
@@ -151,6 +155,9 @@ mod tests {
             field(heap, b"field tone-pairs\r")?,
             Some(FieldName::TonePairs)
         );
+        assert_eq!(rt; field(heap, b"field bytes")?, Some(FieldName::Bytes));
+        assert!(rt; is_frame(heap, b"frame")?);
+        assert!(rt; !is_frame(heap, b"reopen")?);
         assert!(rt; encoded(heap, b"encode")?.is_empty());
         assert!(rt; encoded(heap, b"encode 3 1")?.len() == 2);
         Ok(())
