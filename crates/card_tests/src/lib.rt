@@ -48,7 +48,11 @@ mod tests {
         assert_eq!(rt; refusal(&[1, 2, 1, 1, 0, 3, 0, 1, 0]), Some((5, 1, 6)));
         assert_eq!(rt; refusal(&[1, 2, 1, 1, 0, 3, 0, 0, 0]), Some((17, 2, 6)));
         assert_eq!(rt; refusal(&[1, 2, 1, 1, 0, 3, 1, 0, 2]), Some((15, 2, 8)));
-        // A chain that would run in a circle.
+        // Two records of one power in a chain, and a chain that would run in a circle.
+        assert_eq!(rt;
+            refusal(&[1, 2, 2, 1, 0, 3, 1, 0, 2, 3, 1, 0, 0]),
+            Some((16, 2, 9))
+        );
         assert_eq!(rt; refusal(&[1, 2, 1, 1, 0, 3, 1, 0, 1]), Some((16, 2, 5)));
         // Two records of one chain, whose second power falls, and stays.
         assert_eq!(rt;

@@ -8,6 +8,7 @@ mod tests {
     use design::draft::Draft;
     use design::fault::DesignFault;
     use fields::fault::Refusal;
+    use fields::field::Field;
     use std::test::Fail;
     use tables::sizes::GENERATORS;
     use tones::Tone;
@@ -23,6 +24,7 @@ mod tests {
         assert_eq!(rt; refusal(Draft::begin(1, &mut table)), Some(2));
         assert_eq!(rt; refusal(Draft::begin(9, &mut table)), Some(2));
         assert_eq!(rt; refusal(Draft::begin(2, &mut table)), None);
+        assert!(rt; table.iter().all(|x| x.code() == 0));
         assert_eq!(rt; refusal(Draft::begin(8, &mut table)), None);
     }
 

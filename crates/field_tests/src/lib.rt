@@ -4,4 +4,6 @@
 #[cfg(test)]
 mod bits;
 #[cfg(test)]
+mod members;
+#[cfg(test)]
 mod tests;

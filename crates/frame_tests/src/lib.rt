@@ -2,6 +2,9 @@
 #![tactic(auto)]
 
 #[cfg(test)]
+mod columns;
+
+#[cfg(test)]
 mod tests {
     use design::draft::Draft;
     use design::fault::DesignFault;

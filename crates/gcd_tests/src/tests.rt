@@ -85,6 +85,15 @@ fn tone_pair_rows(rt: HostRuntime) -> Result<(), Fail> {
     rows::<TonePair>(&rt, 0)
 }
 
+// A row of no generators has no divisor, and the work table, which was full of ones, is cleared.
+#[test]
+fn no_generators(rt: HostRuntime) -> Result<(), Fail> {
+    let mut row = Row::zeros(rt.alloc(), 0, Tone::T1)?;
+    assert!(rt; row.divide().is_none());
+    assert!(rt; row.rest_is_zero(0));
+    Ok(())
+}
+
 // The row (s^2, s^2 + s) has the divisor s and the divided row (s, s + 1).
 #[test]
 fn square_and_square_with_line(rt: HostRuntime) -> Result<(), Fail> {

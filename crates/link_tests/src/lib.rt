@@ -2,6 +2,9 @@
 #![tactic(auto)]
 
 #[cfg(test)]
+mod support;
+
+#[cfg(test)]
 mod tests {
     use design::framed::Framed;
     use fields::fault::Refusal;
@@ -137,6 +140,60 @@ mod tests {
         encodes(&rt, &shared, &[(1, 4, Err(11))])?;
         inverts(&rt, &shared, &[(1, 4, Err(11))])?;
         checks(&rt, &shared, &[(4, Err(11))])
+    }
+
+    // What encode refuses with a table of generators that is short, and check with a block of no length: number, layer and place.
+    #[test]
+    fn refusals(rt: HostRuntime) -> Result<(), Fail> {
+        let station = Station::<Tone>::open(&rt, APART)?;
+        let short = [Tone::T0; 135];
+        let Err(fault) = encode(&station.framed, &short, &[Tone::T4], &mut [Tone::T0; 6]) else {
+            return Err(Fail::new("encoded"));
+        };
+        assert_eq!(rt; fault.number(), 1);
+        assert_eq!(rt; fault.layer().number(), 3);
+        assert_eq!(rt; fault.place(), 0);
+        let Err(fault) = station.check(&[]) else {
+            return Err(Fail::new("checked"));
+        };
+        assert_eq!(rt; fault.number(), 12);
+        assert_eq!(rt; fault.layer().number(), 4);
+        assert_eq!(rt; fault.place(), 0);
+        Ok(())
+    }
+
+    // The block of a message of one symbol 1, with one more of its symbols raised to 1, is clean no more.
+    fn tells(
+        rt: &(impl Abort + AllocGlobal),
+        design: Design<'_>,
+        block: &mut [Tone],
+        place: usize,
+    ) -> Result<(), Fail> {
+        let station = Station::open(rt, design)?;
+        assert_eq!(rt; station.encode(&[Tone::T1], block), Ok(()));
+        assert_eq!(rt; station.check(block), Ok(true));
+        let Some(x) = block.get_mut(place) else {
+            return Err(Fail::new("no such place"));
+        };
+        *x = x.add(Tone::T1);
+        assert_eq!(rt; station.check(block), Ok(false));
+        Ok(())
+    }
+
+    // The check column of (1, s) is (s, 30): a hit of the second stream at time 0 is told by the sum at time 0 alone. That of (s^16, 1) is
+    // (30, s^16): a hit of the second stream at the last time, 16, is told by the sum at time 32 alone.
+    #[test]
+    fn hits_that_one_time_tells(rt: HostRuntime) -> Result<(), Fail> {
+        let first = Design {
+            n: 2,
+            terms: &[Term(0, 0, 1), Term(1, 1, 1)],
+        };
+        let last = Design {
+            n: 2,
+            terms: &[Term(0, 16, 1), Term(1, 0, 1)],
+        };
+        tells(&rt, first, &mut [Tone::T0; 4], 1)?;
+        tells(&rt, last, &mut [Tone::T0; 34], 33)
     }
 
     // A message on its way: its block, and what came home.

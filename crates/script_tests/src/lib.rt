@@ -6,6 +6,7 @@ mod tests {
     use scripts::call::{Call, FieldName, Keyword};
     use scripts::line::{Expected, Line, read_line};
     use scripts::number::number;
+    use scripts::words::{Mark, Pieces};
     use std::alloc::{AllocError, Global};
     use std::test::Fail;
 
@@ -27,6 +28,10 @@ mod tests {
 
     fn is_blank(heap: Global, line: &[u8]) -> Result<bool, AllocError> {
         Ok(matches!(read_line(heap, line)?, Line::Blank))
+    }
+
+    fn is_frame(heap: Global, line: &[u8]) -> Result<bool, AllocError> {
+        Ok(matches!(read_line(heap, line)?, Line::Call(Call::Frame)))
     }
 
     // The numbers of a put.
@@ -63,6 +68,16 @@ mod tests {
         assert_eq!(rt; number(b"-1"), None);
         assert_eq!(rt; number(b"1x"), None);
         assert_eq!(rt; number(b"x1"), None);
+    }
+
+    // One after the other, told apart by their lengths.
+    #[test]
+    fn pieces_of_a_text(rt: HostRuntime) {
+        let mut pieces = Pieces::of(b"1,23,", Mark::Comma);
+        assert_eq!(rt; pieces.next().map(|piece| piece.len()), Some(1));
+        assert_eq!(rt; pieces.next().map(|piece| piece.len()), Some(2));
+        assert_eq!(rt; pieces.next().map(|piece| piece.len()), Some(0));
+        assert!(rt; pieces.next().is_none());
     }
 
     #[test]
@@ -140,6 +155,9 @@ mod tests {
             field(heap, b"field tone-pairs\r")?,
             Some(FieldName::TonePairs)
         );
+        assert_eq!(rt; field(heap, b"field bytes")?, Some(FieldName::Bytes));
+        assert!(rt; is_frame(heap, b"frame")?);
+        assert!(rt; !is_frame(heap, b"reopen")?);
         assert!(rt; encoded(heap, b"encode")?.is_empty());
         assert!(rt; encoded(heap, b"encode 3 1")?.len() == 2);
         Ok(())
