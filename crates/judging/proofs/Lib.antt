@@ -4,3 +4,4 @@ pub mod Vectors
 pub mod LeadingTest
 pub mod Exactness
 pub mod Copied
+pub mod Behind

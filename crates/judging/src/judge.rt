@@ -1,5 +1,5 @@
 // The judge of offered columns: the questions, in their order.
-ghost use Rattle.std.specs.Prelude.{◌≡◌, ◌-◌, length, MatchResult};
+ghost use Rattle.std.specs.Prelude.{◌≡◌, ◌+◌, ◌-◌, ◌≤◌, length, MatchResult};
 ghost use Rattle.algebra.specs.Divisors.{AllZero};
 ghost use Rattle.frames.specs.Rows.{generator_in};
 ghost use Rattle.framing.specs.Framing.{column_in};
@@ -15,22 +15,25 @@ use frames::row::{DIVISOR, Degrees, divide_by_gcd};
 use tables::sizes::{MAX_COUNT, WIDTH, WORK};
 
 impl<'a, F: Field> Offer<'a, F> {
-    // Asks about the degrees and the leading vectors of the columns, of which column 0 is not zero.
-    fn judge_degrees(&self, d: usize) -> Result<(), Objection>
-        requires { AllZero F.ops self.now.n (column_in F.ops F.member self.now.offered.now 0) → ⊥ }
+    // Asks about the degrees and the leading vectors of the columns, of which column 0 is not zero. The elimination is made in the lent
+    // table, whatever stood there.
+    fn judge_degrees(&self, d: usize, table: &mut [F]) -> Result<(), Objection>
+        requires room { FACTORS + MAX_COUNT ≤ length table.old }
+        requires nonzero { AllZero F.ops self.now.n (column_in F.ops F.member self.now.offered.now 0) → ⊥ }
         ensures { MatchResult result (λ _. InDegree F.ops self.now.n (self.now.n - 1) d (column_in F.ops F.member self.now.offered.now) × FirstOutside F.ops self.now.n (self.now.n - 1) (column_in F.ops F.member self.now.offered.now)) (ObjectsByDegree F.ops self.now.n (self.now.n - 1) d (column_in F.ops F.member self.now.offered.now)) }
     {
         let graded = Graded::of(self);
-        let mut factors = [F::zero(); FACTORS];
+        let (factors, rest) = table.split_at_mut(FACTORS);
+        let column = &mut rest[..self.n];
         let mut pivots = [0; MAX_COUNT];
         if !graded.in_order(d) {
             return Err(Objection::Degrees);
         }
         graded
-            .eliminate(self.n - 1, &mut factors, &mut pivots)
+            .eliminate(self.n - 1, factors, &mut pivots, column)
             .ok_or(Objection::Degrees)?;
         let count = graded.count_no_higher();
-        if !graded.outside(count, &mut factors, &mut pivots) {
+        if !graded.outside(count, factors, &mut pivots, column) {
             return Err(Objection::Leading);
         }
         Ok(())
@@ -49,7 +52,7 @@ impl<'a, F: Field> Offer<'a, F> {
         if let Some(j) = self.lowest_no_syzygy() {
             return Err(Objection::Check(j));
         }
-        self.judge_degrees(degrees.row)?;
+        self.judge_degrees(degrees.row, &mut work[..DIVISOR])?;
         Ok(degrees)
     }
 }

@@ -33,15 +33,14 @@ impl<'a, F: Field> Graded<'a, F> {
         count: usize,
         factors: &'b mut [F],
         pivots: &'b mut [usize],
+        column: &mut [F],
     ) -> Option<Steps<'b, F>>
         requires sized { count < self.now.offer.now.n }
-        requires room { (length factors.old ≡ FACTORS) × (length pivots.old ≡ MAX_COUNT) }
+        requires room { (length factors.old ≡ FACTORS) × ((length pivots.old ≡ MAX_COUNT) × (length column.old ≡ self.now.offer.now.n)) }
         ensures answer { MatchOption result (Independent F.ops All count self.now.offer.now.n (check_leading F.ops F.member self.now.offer.now.offered.now self.now.degrees) → ⊥) (λ s. Independent F.ops All count self.now.offer.now.n (check_leading F.ops F.member self.now.offer.now.offered.now self.now.degrees)) }
         ensures steps { MatchOption result (Unit {0}) (λ s. (s.rows ≡ self.now.offer.now.n) × ((s.rank ≡ count) × Reduces F.ops self.now.offer.now.n count (column_at F.ops F.member self.now.offer.now.n s.factors.now) (entry_at s.pivots.now) (check_leading F.ops F.member self.now.offer.now.offered.now self.now.degrees))) }
     {
         let mut steps = Steps::new(self.offer.n, factors, pivots);
-        let mut cells = [F::zero(); MAX_COUNT];
-        let column = &mut cells[..self.offer.n];
         // By number: a leading vector is read by the number of its column, from the offer and from the degrees.
         for j in 0..count {
             self.write_leading(j + 1, column);
@@ -53,15 +52,19 @@ impl<'a, F: Field> Graded<'a, F> {
     }
 
     // Whether column 0's leading vector is outside the combinations of those of the first check columns, which are independent.
-    pub(crate) fn outside(&self, count: usize, factors: &mut [F], pivots: &mut [usize]) -> bool
+    pub(crate) fn outside(
+        &self,
+        count: usize,
+        factors: &mut [F],
+        pivots: &mut [usize],
+        column: &mut [F],
+    ) -> bool
         requires sized { count < self.now.offer.now.n }
-        requires room { (length factors.old ≡ FACTORS) × (length pivots.old ≡ MAX_COUNT) }
+        requires room { (length factors.old ≡ FACTORS) × ((length pivots.old ≡ MAX_COUNT) × (length column.old ≡ self.now.offer.now.n)) }
         requires independent { Independent F.ops All count self.now.offer.now.n (check_leading F.ops F.member self.now.offer.now.offered.now self.now.degrees) }
         ensures { Tells (Spanned F.ops All count self.now.offer.now.n (check_leading F.ops F.member self.now.offer.now.offered.now self.now.degrees) (coefficients_in F.ops F.member self.now.offer.now.offered.now 0 (entry_at self.now.degrees 0)) → ⊥) result }
     {
-        let mut steps = self.eliminate(count, factors, pivots).unwrap();
-        let mut cells = [F::zero(); MAX_COUNT];
-        let column = &mut cells[..self.offer.n];
+        let mut steps = self.eliminate(count, factors, pivots, column).unwrap();
         self.write_leading(0, column);
         steps.take_column(column)
     }

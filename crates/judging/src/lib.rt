@@ -22,7 +22,8 @@ mod offer;
 mod products;
 mod taking;
 
-// How many factors the steps of elimination have, at most. The judge's tables are arrays of fixed size: no memory is allocated below
+// How many factors the steps of elimination have, at most. They lie at the front of the work table, and the column that is taken behind
+// them. What else the judge needs, a product, the degrees and the pivot rows, are arrays of fixed size: no memory is allocated below
 // `history`.
 const FACTORS: usize = MAX_COUNT * MAX_COUNT;
 

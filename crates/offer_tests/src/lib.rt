@@ -3,8 +3,6 @@
 
 #[cfg(test)]
 mod tests {
-    use design::draft::Draft;
-    use design::fault::DesignFault;
     use fields::fault::Refusal;
     use fields::field::Field;
     use nibbles::Nibble;
@@ -12,7 +10,7 @@ mod tests {
     use std::test::Fail;
     use tables::sizes::{COLUMNS, GENERATORS, MAX_COUNT, WIDTH};
     use test_support::designs::{Design, Tables, Term};
-    use test_support::elements::{Cell, code_at, holds, sum_of_codes, write};
+    use test_support::elements::{Cell, holds, sum_of_codes, write};
     use tones::Tone;
     use towers::{Byte, TonePair};
 
@@ -105,24 +103,46 @@ mod tests {
         let leading = Err((10, 0));
         let longer = [(0, 1), (1, 1), (17, 30), (137, 1), (153, 30)];
         offers::<Tone>(&rt, TWO, &longer, leading)?;
-        // all generators zero
-        offers::<Tone>(&rt, Design { n: 2, terms: &[] }, &[(0, 1)], Err((6, 0)))
+        // all generators zero, (1, 0), (0, 1)
+        let none = Design { n: 2, terms: &[] };
+        offers::<Tone>(&rt, none, &[(0, 1), (153, 1)], Err((6, 0)))
+    }
+
+    // Of each pair both are answered no, and every other question yes.
+    #[test]
+    fn the_first_no_is_the_refusal(rt: HostRuntime) -> Result<(), Fail> {
+        // 7 before 8: (2, 0), (s, 29)
+        offers::<Tone>(&rt, TWO, &[(0, 2), (137, 1), (153, 29)], Err((7, 0)))?;
+        // 7 before 9: (2, 0), (s^2, 30s)
+        offers::<Tone>(&rt, TWO, &[(0, 2), (138, 1), (154, 30)], Err((7, 0)))?;
+        // 7 before 10: (2 + s, 30), (s, 30)
+        let inside = [(0, 2), (1, 1), (17, 30), (137, 1), (153, 30)];
+        offers::<Tone>(&rt, TWO, &inside, Err((7, 0)))?;
+        // 8 before 9: (1, 0), (s^2, 29s)
+        offers::<Tone>(&rt, TWO, &[(0, 1), (138, 1), (154, 29)], Err((8, 1)))?;
+        // 8 before 10: (1 + s, 30), (s, 29)
+        let beside = [(0, 1), (1, 1), (17, 30), (137, 1), (153, 29)];
+        offers::<Tone>(&rt, TWO, &beside, Err((8, 1)))?;
+        // 9 before 10: (1 + s^2, 30s), (s^2, 30s)
+        let long = [(0, 1), (2, 1), (18, 30), (138, 1), (154, 30)];
+        offers::<Tone>(&rt, TWO, &long, Err((9, 0)))
     }
 
     #[test]
-    fn the_first_no_is_the_refusal(rt: HostRuntime) -> Result<(), Fail> {
-        // 7 before 8, 9
-        offers::<Tone>(&rt, TWO, &[(137, 1)], Err((7, 0)))?;
+    fn before_the_degrees(rt: HostRuntime) -> Result<(), Fail> {
+        // All generators zero, so that every product is: 6 before 9, no check column, and before 10, (1, 0), (1, 0)
+        let none = Design { n: 2, terms: &[] };
+        offers::<Tone>(&rt, none, &[(0, 1)], Err((6, 0)))?;
+        offers::<Tone>(&rt, none, &[(0, 1), (136, 1)], Err((6, 0)))?;
+        // nothing but zeros: 7 before 9; (0, 0), (s, 0): 7 before 8
         offers::<Tone>(&rt, TWO, &[], Err((7, 0)))?;
+        offers::<Tone>(&rt, TWO, &[(137, 1)], Err((7, 0)))?;
         // 8 before 9: (0, 1, 0), then (s^4, 0, 30), which has another product and degree
         let other = [(0, 1), (153, 1), (276, 1), (306, 30)];
         offers::<Tone>(&rt, CUBE, &other, Err((8, 2)))?;
-        // the lowest of two with 8
+        // the lowest of two with 8: (1, 0, 0), (1, 0, 0)
         let both = [(0, 1), (136, 1), (272, 1)];
-        offers::<Tone>(&rt, CUBE, &both, Err((8, 1)))?;
-        // 9 before 10: (1 + s, 30), (s^2, 30s)
-        let long = [(0, 1), (1, 1), (17, 30), (138, 1), (154, 30)];
-        offers::<Tone>(&rt, TWO, &long, Err((9, 0)))
+        offers::<Tone>(&rt, CUBE, &both, Err((8, 1)))
     }
 
     #[test]
@@ -175,7 +195,11 @@ mod tests {
         offers::<Tone>(&rt, THREE, &turned, frame)?;
         // (s, 30, 0), (2s, 29, 0): the degrees are right, and the leading vectors dependent
         let twice = [(0, 1), (137, 1), (153, 30), (273, 2), (289, 29)];
-        offers::<Tone>(&rt, THREE, &twice, Err((9, 0)))?;
+        offers::<Tone>(&rt, THREE, &twice, Err((9, 0)))
+    }
+
+    #[test]
+    fn first_columns_for_one_row(rt: HostRuntime) -> Result<(), Fail> {
         // (0, 0, 1), (0, 1, 30 + 30s), (1, 1 + 30s, 30) for (s^2, s + 1, 1)
         let design = Design {
             n: 3,
@@ -191,7 +215,7 @@ mod tests {
             (290, 30),
             (306, 30),
         ];
-        offers::<Tone>(&rt, design, &least, frame)?;
+        offers::<Tone>(&rt, design, &least, Ok((65792, 0)))?;
         // Euclid's chain gives (1, 1 + 30s, 0) for column 0
         let chain = [
             (0, 1),
@@ -233,13 +257,15 @@ mod tests {
         offers::<TonePair>(&rt, TWO, &[(0, 1), (137, 1), (153, 30)], frame)
     }
 
+    // The generators (s^16, 0, 0, 0, 0, 0, 0, 1).
+    const LONGEST: Design<'static> = Design {
+        n: MAX_COUNT,
+        terms: &[Term(0, 16, 1), Term(7, 0, 1)],
+    };
+
     #[test]
-    fn offers_at_the_limits(rt: HostRuntime) -> Result<(), Fail> {
-        // (s^16, 0, 0, 0, 0, 0, 0, 1): the last check column is (30, 0, .., 0, s^16)
-        let design = Design {
-            n: MAX_COUNT,
-            terms: &[Term(0, 16, 1), Term(7, 0, 1)],
-        };
+    fn a_frame_at_the_limits(rt: HostRuntime) -> Result<(), Fail> {
+        // the last check column is (30, 0, .., 0, s^16)
         let own = [
             (119, 1),
             (153, 1),
@@ -252,7 +278,11 @@ mod tests {
             (1087, 1),
         ];
         let frame = Ok((1152921504606846976, 0));
-        offers::<Tone>(&rt, design, &own, frame)?;
+        offers::<Tone>(&rt, LONGEST, &own, frame)
+    }
+
+    #[test]
+    fn refusals_at_the_limits(rt: HostRuntime) -> Result<(), Fail> {
         // s^16 more in a component: the products have s^32 more
         let check = [
             (119, 1),
@@ -266,7 +296,7 @@ mod tests {
             (968, 1),
             (1087, 1),
         ];
-        offers::<Tone>(&rt, design, &check, Err((8, 7)))?;
+        offers::<Tone>(&rt, LONGEST, &check, Err((8, 7)))?;
         let first = [
             (16, 1),
             (119, 1),
@@ -279,52 +309,77 @@ mod tests {
             (952, 30),
             (1087, 1),
         ];
-        offers::<Tone>(&rt, design, &first, Err((7, 0)))
+        offers::<Tone>(&rt, LONGEST, &first, Err((7, 0)))
     }
 
-    // The refusal of an offer of tables of these lengths, all zero but for the frame and the work table.
+    // Lengths of the generators, the offered table, the frame and the work table.
+    type Lengths = (usize, usize, usize, usize);
+
+    // Offers the cells for a design, with tables of these lengths, of which one is wrong: the refusal speaks of lengths alone, and every
+    // table stays as it was.
     // It stands apart from that of framing: an offer brings one table more, and what it leaves in the work table is compared too.
     fn refused(
         rt: &(impl Abort + AllocGlobal),
-        generators: usize,
-        offered: usize,
-        frame: usize,
-        work: usize,
-    ) -> Result<DesignFault, Fail> {
+        design: Design<'_>,
+        cells: &[Cell],
+        (generators, offered, frame, work): Lengths,
+    ) -> Result<(), Fail> {
         let heap = rt.alloc();
-        let draft = Draft::begin(2, &mut [Tone::T0; GENERATORS])?;
-        let table = vec![in heap; Tone::T0; generators]?;
-        let columns = vec![in heap; Tone::T0; offered]?;
+        let mut table = vec![in heap; Tone::T0; GENERATORS]?;
+        let mut columns = vec![in heap; Tone::T0; COLUMNS]?;
+        let draft = design.enter(&mut table)?;
+        assert!(rt; write(&mut columns, cells)?);
+        table.resize(generators, Tone::T0)?;
+        columns.resize(offered, Tone::T0)?;
         let mut frame = vec![in heap; Tone::T7; frame]?;
         let mut work = vec![in heap; Tone::T7; work]?;
         let Err(back) = draft.offer(&table, &columns, &mut frame, &mut work) else {
             return Err(Fail::new("granted"));
         };
-        assert_eq!(rt; back.design.count(), 2);
-        assert_eq!(rt; code_at(&frame, 0), Some(7));
-        let left = match back.fault {
-            DesignFault::TableLength => 7,
-            _ => 0,
-        };
-        assert_eq!(rt; code_at(&work, 4519), Some(left));
-        Ok(back.fault)
+        assert_eq!(rt; back.fault.number(), 1);
+        assert_eq!(rt; back.fault.place(), 0);
+        assert_eq!(rt; back.design.count(), design.n);
+        assert!(rt; frame.iter().all(|x| *x == Tone::T7));
+        assert!(rt; work.iter().all(|x| *x == Tone::T7));
+        Ok(())
+    }
+
+    // Offers the cells for a design with each table one element short, and one long.
+    fn refused_by_length(
+        rt: &(impl Abort + AllocGlobal),
+        design: Design<'_>,
+        cells: &[Cell],
+    ) -> Result<(), Fail> {
+        for lengths in [
+            (135, 1088, 1105, 4521),
+            (137, 1088, 1105, 4521),
+            (136, 1087, 1105, 4521),
+            (136, 1089, 1105, 4521),
+            (136, 1088, 1104, 4521),
+            (136, 1088, 1106, 4521),
+            (136, 1088, 1105, 4520),
+            (136, 1088, 1105, 4522),
+        ] {
+            refused(rt, design, cells, lengths)?;
+        }
+        Ok(())
     }
 
     #[test]
-    fn lengths(rt: HostRuntime) -> Result<(), Fail> {
-        // The last of each is the refusal's number, which docs/refusals.md promises.
-        for (generators, offered, frame, work, number) in [
-            (136, 1088, 1105, 4521, 6),
-            (135, 1088, 1105, 4521, 1),
-            (136, 1087, 1105, 4521, 1),
-            (136, 1089, 1105, 4521, 1),
-            (136, 1088, 1104, 4521, 1),
-            (136, 1088, 1105, 4520, 1),
-            (136, 1088, 1105, 4522, 1),
-        ] {
-            let fault = refused(&rt, generators, offered, frame, work)?;
-            assert_eq!(rt; fault.number(), number);
-        }
-        Ok(())
+    fn lengths_before_everything_else(rt: HostRuntime) -> Result<(), Fail> {
+        // the frame of (1, s)
+        refused_by_length(&rt, TWO, &[(0, 1), (137, 1), (153, 30)])?;
+        // 1 before 6
+        let none = Design { n: 2, terms: &[] };
+        refused_by_length(&rt, none, &[(0, 1), (137, 1), (153, 30)])?;
+        // 1 before 7: (2, 0), (s, 30)
+        refused_by_length(&rt, TWO, &[(0, 2), (137, 1), (153, 30)])?;
+        // 1 before 8: (1, 0), (s, 29)
+        refused_by_length(&rt, TWO, &[(0, 1), (137, 1), (153, 29)])?;
+        // 1 before 9: (1, 0), (s^2, 30s)
+        refused_by_length(&rt, TWO, &[(0, 1), (138, 1), (154, 30)])?;
+        // 1 before 10: (1 + s, 30), (s, 30)
+        let longer = [(0, 1), (1, 1), (17, 30), (137, 1), (153, 30)];
+        refused_by_length(&rt, TWO, &longer)
     }
 }

@@ -1,6 +1,7 @@
 use Rattle.std.proofs.Common.{◌≡◌, ◌-◌, Some, None, sym, refl, ◌∙◌, arith}
 use Rattle.std.proofs.lemmas.Option.{MatchOption-at_none, MatchOption-at_some}
 use Rattle.std.proofs.lemmas.Result.{err_from_is_err_and}
+use Rattle.std.proofs.lemmas.List.{length-take-le}
 use Rattle.algebra.specs.Series.{dot, series}
 use Rattle.algebra.proofs.Fields.{field_of}
 use Rattle.tables.proofs.Slices.{part_is}
@@ -9,6 +10,7 @@ use Rattle.framing.specs.Framing.{column_in}
 use Rattle.framing.proofs.Whole.{degrees_within}
 use Rattle.judging.specs.Offers.{Objects, every_zero, first_differs, no_syzygy, by_degree}
 use Rattle.judging.specs.declared.objection.Objection.TheVariants.{AllZero, First, Check}
+use Rattle.judging.proofs.Behind.{passed_behind}
 use Rattle.judging.proofs.Exactness.{first_nonzero, test_passed, passed_optimal, objects_never, row_divided, column_polynomial}
 use Rattle.judging.proofs.offer.Offer.judge.Goals as goal
 
@@ -59,8 +61,14 @@ returns-in-Some g c =
     let objects : Objects f.ops n (n - 1) row columns (Check j) = no_syzygy divisor found.row row_of first j refl c.in-Some.ensures in
     record { answer = objects; exact = objects_never f.ops field n row columns (Check j) (omega arith) (column_polynomial f.ops f.member offered) objects }
 
-pub judge_degrees-requires : goal.judge_degrees-requires
-judge_degrees-requires g c =
+pub slice_bounds-judge_degrees-end-2 : goal.slice_bounds-judge_degrees-end-2
+slice_bounds-judge_degrees-end-2 g c = omega (arith, length-take-le 4368 c.divide_by_gcd.new.work (omega (arith, c.divide_by_gcd.auto.work)))
+
+pub judge_degrees-requires-clause-room : goal.judge_degrees-requires-clause-room
+judge_degrees-requires-clause-room g c = let low = length-take-le 4368 c.divide_by_gcd.new.work (omega (arith, c.divide_by_gcd.auto.work)) in omega (arith, low)
+
+pub judge_degrees-requires-clause-nonzero : goal.judge_degrees-requires-clause-nonzero
+judge_degrees-requires-clause-nonzero g c =
     let f = g.F.Field in
     let field = field_of g.met.F.Field.laws g.met.F.Field.numbered g.met.F.Field.invertible in
     let found = c.in_ok-degrees.degrees in
@@ -113,6 +121,7 @@ returns g c =
     let test = test_passed o field n row divisor d columns (omega arith) first c.in_default.ensures passed.0 passed.1 in
     record {
       answer =
+          passed_behind o f.member work c.judge_degrees.new.table (let low = length-take-le 4368 work (omega (arith, c.divide_by_gcd.auto.work)) in omega (arith, c.judge_degrees.auto.table, low)) n generators offered d found.divisor
           record {
             row_of = row_of;
             divisor_degree = all.degree;

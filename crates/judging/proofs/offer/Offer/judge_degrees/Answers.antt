@@ -65,7 +65,7 @@ returns-then-not-outside g c =
     let independent = rw same at (some_found _ _ c.eliminate.result (sym c.ok_or.ensures.variant ∙ ap is_ok c.in_ok-ok_or.was) c.eliminate.ensures.answer) in
     let few = rw same at c.count_no_higher-count.ensures in
     let inside = rw same at c.if-not-outside.ensures in
-    let first = highest_degree f.ops n e (columns 0) (degrees 0 (omega arith)) c.requires in
+    let first = highest_degree f.ops n e (columns 0) (degrees 0 (omega arith)) c.requires.nonzero in
     first_inside refl (Test.in_degree f.ops field n (n - 1) columns δ found c.args.d order independent)
     (λ out. inside (λ s. Test.outside_no f.ops field n (n - 1) columns δ found e c.count_no_higher-count.result first few order.0 independent s out))
 
@@ -84,7 +84,7 @@ returns g c =
     let independent = rw same at (some_found _ _ c.eliminate.result (sym c.ok_or.ensures.variant ∙ ap is_ok c.in_ok-ok_or.was) c.eliminate.ensures.answer) in
     let few = rw same at c.count_no_higher-count.ensures in
     let outside = rw same at c.if-not-outside.ensures in
-    let first = highest_degree f.ops n e (columns 0) (degrees 0 (omega arith)) c.requires in (
+    let first = highest_degree f.ops n e (columns 0) (degrees 0 (omega arith)) c.requires.nonzero in (
       Test.in_degree f.ops field n (n - 1) columns δ found c.args.d order independent,
       Test.outside_yes f.ops field n (n - 1) columns δ found e c.count_no_higher-count.result first few order.0 outside,
     )
