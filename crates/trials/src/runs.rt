@@ -116,6 +116,27 @@ struct Listed<'a, F: Field + Drop> {
     columns: Vec<F>,
 }
 
+impl<'a, F: Field + Clone + Drop> Listed<'a, F> {
+    fn draw(
+        heap: Global,
+        draws: &mut Draws,
+        row: &'a Row,
+        framed: &'a Framed,
+        tables: &'a Tables<F>,
+    ) -> Result<Listed<'a, F>, AllocError> {
+        let mut columns = vec![in heap; F::zero(); COLUMNS]?;
+        write_members(&mut columns, &solve::<F>(row));
+        Ok(Listed {
+            heap,
+            row,
+            framed,
+            tables,
+            sent: Sent::draw(heap, draws, framed, tables)?,
+            columns,
+        })
+    }
+}
+
 impl<F: Field + Clone + Drop> Listed<'_, F> {
     // A table of ones.
     fn ones(&self, length: usize) -> Result<Vec<F>, AllocError> {
@@ -340,17 +361,6 @@ pub(crate) fn runs_agree<F: Field + Clone + Drop>(
     let Some(framed) = tables.frame(row) else {
         return Ok(false);
     };
-    let sent = Sent::draw(heap, draws, &framed, tables)?;
-    let mut columns = vec![in heap; F::zero(); COLUMNS]?;
-    write_members(&mut columns, &solve::<F>(row));
-    let single = sent.agrees(row, &framed);
-    let listed = Listed {
-        heap,
-        row,
-        framed: &framed,
-        tables,
-        sent,
-        columns,
-    };
-    Ok(single && listed.agrees(Tables::full(heap)?)?)
+    let listed = Listed::draw(heap, draws, row, &framed, tables)?;
+    Ok(listed.sent.agrees(row, &framed) && listed.agrees(Tables::full(heap)?)?)
 }
