@@ -18,7 +18,7 @@ use keeping::{try_card, writing_agrees};
 use limits::try_limits;
 use nibbles::Nibble;
 use offers::try_offers;
-use runs::runs_agree;
+use runs::Listed;
 use station::Tables;
 use std::alloc::{AllocError, Global};
 use tally::Tally;
@@ -142,14 +142,15 @@ impl<F: Field + Clone + Drop> Trials<F> {
         Ok(())
     }
 
-    // Performs the calls of a row as lists; of (1, 0, .., 0) where the row is all zero.
+    // Performs the calls of a row that is not all zero as lists.
     fn try_runs(&mut self, row: &Row) -> Result<(), AllocError> {
-        let mut row = *row;
-        if row.is_zero() {
-            row.put(0, 0, 1);
-        }
-        let agree = runs_agree(self.heap, &mut self.messages, &row, &mut self.tables)?;
-        self.counts.runs.note(agree);
+        let Some(framed) = self.tables.frame(row) else {
+            self.counts.runs.note(false);
+            return Ok(());
+        };
+        let own = Tables::full(self.heap)?;
+        let listed = Listed::draw(self.heap, &mut self.messages, row, &framed, &self.tables)?;
+        self.counts.runs.note(listed.agrees(own)?);
         Ok(())
     }
 
@@ -167,11 +168,20 @@ impl<F: Field + Clone + Drop> Trials<F> {
             }
             if number % 8 == 0 {
                 self.try_keeping(&row)?;
-                self.try_runs(&row)?;
+                self.try_runs(&with_a_term(row))?;
             }
         }
         Ok(())
     }
+}
+
+// A row, or (1, 0, .., 0) in place of one that is all zero.
+fn with_a_term(row: Row) -> Row {
+    let mut row = row;
+    if row.is_zero() {
+        row.put(0, 0, 1);
+    }
+    row
 }
 
 // How many rows of each shape are drawn over each field.

@@ -106,7 +106,7 @@ impl<F: Field + Clone + Drop> Sent<F> {
 
 // A row that was framed by the single calls, with what they left, to be entered, framed and sent under by lists of requests.
 #[derive(Drop)]
-struct Listed<'a, F: Field + Drop> {
+pub(crate) struct Listed<'a, F: Field + Drop> {
     heap: Global,
     row: &'a Row,
     framed: &'a Framed,
@@ -117,7 +117,7 @@ struct Listed<'a, F: Field + Drop> {
 }
 
 impl<'a, F: Field + Clone + Drop> Listed<'a, F> {
-    fn draw(
+    pub(crate) fn draw(
         heap: Global,
         draws: &mut Draws,
         row: &'a Row,
@@ -323,8 +323,9 @@ impl<F: Field + Clone + Drop> Listed<'_, F> {
         }
     }
 
-    // Performs both lists on tables of their own. A list for which there is no memory differs.
-    fn agrees(&self, mut tables: Tables<F>) -> Result<bool, AllocError> {
+    // Whether both lists, performed on tables of their own, answer and leave what the single calls do. A list for which there is no memory
+    // differs.
+    pub(crate) fn agrees(&self, mut tables: Tables<F>) -> Result<bool, AllocError> {
         let Ok(draft) = Draft::begin(self.row.n, &mut tables.generators) else {
             return Ok(false);
         };
@@ -347,20 +348,7 @@ impl<F: Field + Clone + Drop> Listed<'_, F> {
         ) else {
             return Ok(false);
         };
-        Ok(entered && self.is_sent(&answers) && self.is_reopened(&design, &tables))
+        let sent = self.sent.agrees(self.row, self.framed) && self.is_sent(&answers);
+        Ok(entered && sent && self.is_reopened(&design, &tables))
     }
-}
-
-// Whether the calls of a row that is not all zero, performed as lists, answer and leave what the single calls do.
-pub(crate) fn runs_agree<F: Field + Clone + Drop>(
-    heap: Global,
-    draws: &mut Draws,
-    row: &Row,
-    tables: &mut Tables<F>,
-) -> Result<bool, AllocError> {
-    let Some(framed) = tables.frame(row) else {
-        return Ok(false);
-    };
-    let listed = Listed::draw(heap, draws, row, &framed, tables)?;
-    Ok(listed.sent.agrees(row, &framed) && listed.agrees(Tables::full(heap)?)?)
 }
