@@ -7,7 +7,7 @@ use Rattle.nibbles.specs.NibblesLemmas.{nibble_numbering}
 use Rattle.pairs.specs.Pairs.{pair, pair_number}
 use Rattle.pairs.specs.Codes.{pair_numbering}
 use Rattle.tones.specs.Tones.{number_of}
-use Rattle.tones.specs.declared.Tone.TheVariants.{T0, T1, T15, T16}
+use Rattle.tones.specs.declared.Tone.TheVariants.{T0, T1, T5, T15, T16, T25}
 use Rattle.tones.specs.TonesLemmas.{tone_numbering}
 use Rattle.towers.specs.Worked.{IsProduct, AllHold, worked, byte_ops, tone_pair_ops}
 
@@ -22,16 +22,19 @@ multiplies o number x y = record { left = x; right = y; left_number = refl; righ
 
 pub all_hold : AllHold worked
 all_hold = (
-  multiplies _ code_of N8 N2,
+  multiplies _ number_of T5 T25,
   (
-    multiplies _ code_of N2 N9,
+    multiplies _ code_of N8 N2,
     (
-      multiplies byte_ops (pair_number 16 code_of) (pair N0 N1) (pair N0 N1),
+      multiplies _ code_of N2 N9,
       (
-        multiplies byte_ops (pair_number 16 code_of) (pair N0 N1) (pair N15 N15),
+        multiplies byte_ops (pair_number 16 code_of) (pair N0 N1) (pair N0 N1),
         (
-          multiplies tone_pair_ops (pair_number 31 number_of) (pair T0 T1) (pair T0 T1),
-          (multiplies tone_pair_ops (pair_number 31 number_of) (pair T1 T1) (pair T16 T15), tt),
+          multiplies byte_ops (pair_number 16 code_of) (pair N0 N1) (pair N15 N15),
+          (
+            multiplies tone_pair_ops (pair_number 31 number_of) (pair T0 T1) (pair T0 T1),
+            (multiplies tone_pair_ops (pair_number 31 number_of) (pair T1 T1) (pair T16 T15), tt),
+          ),
         ),
       ),
     ),

@@ -26,7 +26,7 @@ abbrev pub tone_pair_ops : RingOps (PairMember Tone)
 tone_pair_ops = pair_ops tone_ops T0 T1
 
 pub data Over : Type 0 where
-  nibbles bytes tone_pairs : Over
+  tones nibbles bytes tone_pairs : Over
 
 pub record Example : Type 0 where
   pub over : Over
@@ -35,6 +35,7 @@ pub record Example : Type 0 where
   pub product : ℕ
 
 abbrev pub Multiplies : Over → ℕ → ℕ → ℕ → Type 0
+Multiplies tones m n p = IsProduct tone_ops number_of m n p
 Multiplies nibbles m n p = IsProduct nibble_ops code_of m n p
 Multiplies bytes m n p = IsProduct byte_ops (pair_number 16 code_of) m n p
 Multiplies tone_pairs m n p = IsProduct tone_pair_ops (pair_number 31 number_of) m n p
@@ -44,7 +45,8 @@ example f m n p = record { over = f; left = m; right = n; product = p }
 
 abbrev pub worked : List Example
 worked =
-    example nibbles 8 2 3
+    example tones 5 25 1
+    ∷ example nibbles 8 2 3
     ∷ example nibbles 2 9 1
     ∷ example bytes 16 16 24
     ∷ example bytes 16 255 1

@@ -26,11 +26,12 @@ pub fn product_of_codes<F: Field>(left: u32, right: u32) -> Result<u16, FieldFau
 }
 
 // The products of the worked examples, in their order, as the fields' own calls give them.
-pub fn worked_products() -> [u16; 6]
+pub fn worked_products() -> [u16; 7]
     ensures value { result ≡ stated worked }
     ensures theorem { AllHold worked }
 {
     [
+        product_of_codes::<Tone>(5, 25).unwrap(),
         product_of_codes::<Nibble>(8, 2).unwrap(),
         product_of_codes::<Nibble>(2, 9).unwrap(),
         product_of_codes::<Byte>(16, 16).unwrap(),

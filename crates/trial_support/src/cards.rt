@@ -27,7 +27,7 @@ fn push_chain(card: &mut Vec<u8>, polynomial: &[u16], first: u8) -> Result<(), A
 }
 
 // The card of a row: the kind, n, how many records there are; the number of each polynomial's first record, 0 where it is zero; the
-// records.
+// records. No contract: it would be the layout once more, which the trials compare with the library's, byte for byte.
 pub fn card_of<F: Field>(heap: Global, row: &Row) -> Result<Vec<u8>, AllocError> {
     let n = u8::try_from(row.n).unwrap_or(u8::MAX);
     let mut card = vec![in heap; F::kind(), n, terms(row.polynomials.as_flattened())]?;
@@ -120,7 +120,7 @@ fn read_head<F: Field>(card: &[u8]) -> Result<usize, Fault> {
     }
 }
 
-// What bytes mean as a card: a row, or the first fault.
+// What bytes mean as a card: a row, or the first fault. No contract, as that of `card_of`: the trials compare it with what the library reads.
 pub fn meaning_of<F: Field>(card: &[u8]) -> Result<Row, Fault> {
     let n = read_head::<F>(card)?;
     let mut row = Row::zeros(n);

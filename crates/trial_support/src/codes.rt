@@ -4,7 +4,9 @@ ghost use Rattle.std.specs.Prelude.{◌≡◌, ◌<◌, length, drop, IfSome, If
 use fields::field::Field;
 
 // The member of a code, zero where there is none: a code past the last member counts as zero.
-pub fn member_of<F: Field>(code: u16) -> F {
+pub fn member_of<F: Field>(code: u16) -> F
+    ensures { code < F.order → F.number (F.member result) ≡ code }
+{
     F::element(u32::from(code)).unwrap_or(F::zero())
 }
 
@@ -19,7 +21,7 @@ pub fn write_members<F: Field>(table: &mut [F], codes: &[u16])
 }
 
 // a + b c
-pub fn sum_product<F: Field>(a: u16, b: F, c: u16) -> u16 {
+pub(crate) fn sum_product<F: Field>(a: u16, b: F, c: u16) -> u16 {
     if c == 0 {
         return a;
     }
@@ -27,12 +29,12 @@ pub fn sum_product<F: Field>(a: u16, b: F, c: u16) -> u16 {
 }
 
 // The inverse of the member of a code, zero for zero: it is only asked for leading codes, which are not zero.
-pub fn inverse<F: Field>(code: u16) -> F {
+pub(crate) fn inverse<F: Field>(code: u16) -> F {
     member_of::<F>(code).inverse().unwrap_or(F::zero())
 }
 
 // The highest place at which a list is not zero.
-pub fn top_of(list: &[u16]) -> Option<usize>
+pub(crate) fn top_of(list: &[u16]) -> Option<usize>
     ensures place { IfSome result (λ i. i < length list.now) }
     ensures none { IfNone result (All (λ code. code ≡ 0) list.now) }
 {

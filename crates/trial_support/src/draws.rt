@@ -1,6 +1,6 @@
 // Numbers that look random, the same at every run. The sequence of `random` is another, of 16 bits a draw; how many answers the trials
 // count, which is printed, depends on these draws.
-ghost use Rattle.std.specs.Prelude.{◌-◌, ◌≤◌};
+ghost use Rattle.std.specs.Prelude.{◌≡◌, ◌-◌, ◌<◌, ◌≤◌};
 
 use fields::field::Field;
 
@@ -10,7 +10,9 @@ pub struct Draws {
 }
 
 impl Draws {
-    pub fn from_seed(seed: u64) -> Draws {
+    pub fn from_seed(seed: u64) -> Draws
+        ensures { result.state ≡ seed }
+    {
         Draws { state: seed }
     }
 
@@ -37,12 +39,14 @@ impl Draws {
     }
 
     // The code of any member.
-    pub fn code<F: Field>(&mut self) -> u16 {
+    pub fn code<F: Field>(&mut self) -> u16
+        ensures { result < F.order }
+    {
         u16::try_from(self.below(F::size())).unwrap_or(0)
     }
 
     // The code of any member but zero.
-    pub fn nonzero<F: Field>(&mut self) -> u16 {
+    pub(crate) fn nonzero<F: Field>(&mut self) -> u16 {
         let code = self.below(F::size() - 1);
         u16::try_from(code + 1).unwrap_or(1)
     }

@@ -42,7 +42,8 @@ const CHANGES: [Change; 6] = [
 ];
 
 impl Offered {
-    // The columns of a frame table.
+    // The columns of a frame table. No contract, here and at the two changes below: the trials offer any columns, and judge those that
+    // came of it.
     pub fn of(frame: &[u16; FRAME]) -> Offered {
         let mut columns = [[0; ROW]; GENERATORS];
         for (column, codes) in columns.iter_mut().zip(frame.chunks_exact(ROW)) {
@@ -131,7 +132,8 @@ fn first_is_outside<F: Field>(n: usize, offered: &[F]) -> bool {
     !echelon.spans::<F>(leading_list(n, first, bound))
 }
 
-// The first question about columns offered for a row that is not all zero that is answered no.
+// The first question about columns offered for a row that is not all zero that is answered no. No contract: the trials compare it with what
+// the library answers.
 pub fn judge<F: Field>(row: &Row, bounds: &Bounds, offered: &[F]) -> Result<(), Fault> {
     if product_with(row, column(offered, 0)) != bounds.divisor {
         return Err(Fault::new(7, 0));

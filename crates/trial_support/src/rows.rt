@@ -1,6 +1,6 @@
 // Rows of generators: of many shapes, drawn at random.
-ghost use Rattle.std.specs.Prelude.{◌≡◌, ◌≢◌, ℕ, List, ◌≤◌, Some, IsTrue, All, slice_get, take};
-ghost use Rattle.trial_support.specs.declared.sizes.TheConstants.{GENERATORS};
+ghost use Rattle.std.specs.Prelude.{◌≡◌, ◌≢◌, ℕ, List, [], ◌<◌, ◌≤◌, Some, IsTrue, All, replicate, get_or, set, slice_get, take};
+ghost use Rattle.trial_support.specs.declared.sizes.TheConstants.{GENERATORS, POWERS};
 
 use crate::codes::{add_product, top_of};
 use crate::draws::Draws;
@@ -37,7 +37,10 @@ pub enum Shape {
 
 impl Row {
     // The row of n zeros, with n from 1 to 8.
-    pub fn zeros(n: usize) -> Row {
+    pub fn zeros(n: usize) -> Row
+        ensures count { 1 ≤ n → n ≤ GENERATORS → result.n ≡ n }
+        ensures zeros { result.polynomials ≡ replicate GENERATORS (replicate POWERS 0) }
+    {
         Row {
             n: n.clamp(1, GENERATORS),
             polynomials: [[0; POWERS]; GENERATORS],
@@ -51,17 +54,22 @@ impl Row {
         &self.polynomials[..self.n]
     }
 
-    pub fn put(&mut self, i: usize, power: usize, code: u16) {
-        if let Some(polynomial) = self.polynomials.get_mut(i) {
-            if let Some(coefficient) = polynomial.get_mut(power) {
-                *coefficient = code;
-            }
+    // Sets the coefficient of a power of polynomial i; what there is none of is passed over.
+    pub fn put(&mut self, i: usize, power: usize, code: u16)
+        ensures count { self.new.n ≡ self.old.n }
+        ensures coefficient { i < GENERATORS → power < POWERS → self.new.polynomials ≡ set self.old.polynomials i (set (get_or self.old.polynomials i []) power code) }
+    {
+        if i < GENERATORS && power < POWERS {
+            self.polynomials[i][power] = code;
         }
     }
 
     // Whether every polynomial is zero.
-    pub fn is_zero(&self) -> bool {
-        self.degree().is_none()
+    pub fn is_zero(&self) -> bool
+        ensures { IsTrue result → (j : ℕ) (p : List ℕ) → slice_get (take self.now.n self.now.polynomials) j ≡ Some p → All (λ code. code ≡ 0) p }
+    {
+        let mut polynomials = self.polynomials().iter();
+        polynomials.all(|polynomial| top_of(polynomial).is_none())
     }
 
     // Whether polynomial i is the only one that is not zero.
@@ -74,7 +82,7 @@ impl Row {
     }
 
     // The highest power with a coefficient that is not zero, absent if there is none.
-    pub fn degree(&self) -> Option<usize> {
+    pub(crate) fn degree(&self) -> Option<usize> {
         self.polynomials()
             .iter()
             .filter_map(|polynomial| top_of(polynomial))
@@ -149,6 +157,7 @@ fn draw_factor<F: Field>(draws: &mut Draws, shape: Shape, plan: Plan) -> [u16; P
     }
 }
 
+// A row of a shape. No contract: any row serves.
 pub fn draw_row<F: Field>(draws: &mut Draws, shape: Shape) -> Row {
     let plan = draw_plan(draws, shape);
     let shared = draw_monic::<F>(draws, plan.shared);

@@ -13,7 +13,8 @@ fn write_columns(columns: &mut [u16], vectors: &[Vector]) {
     }
 }
 
-// The frame table, by codes, of a row that is not all zero.
+// The frame table, by codes, of a row that is not all zero. No contract: it would be the route once more. The trials multiply the row with each
+// column, and compare the degrees with the bounds.
 pub fn solve<F: Field>(row: &Row) -> [u16; FRAME] {
     let mut basis = Basis::begin(row);
     basis.reduce_leading::<F>();

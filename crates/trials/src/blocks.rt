@@ -24,6 +24,18 @@ pub struct Sending<'a, F: Field + Drop> {
     back: Vec<F>,
 }
 
+// A message of 1 to 4 symbols.
+pub(crate) fn draw_message<F: Field + Clone + Drop>(
+    heap: Global,
+    draws: &mut Draws,
+) -> Result<Vec<F>, AllocError> {
+    let mut message = vec![in heap; F::zero(); draws.place(4) + 1]?;
+    for x in message.iter_mut() {
+        *x = member_of(draws.code::<F>());
+    }
+    Ok(message)
+}
+
 impl<'a, F: Field + Clone + Drop> Sending<'a, F> {
     // A message of at most 4 symbols, and room for its block.
     pub(crate) fn draw(
@@ -33,12 +45,9 @@ impl<'a, F: Field + Clone + Drop> Sending<'a, F> {
         framed: &'a Framed,
         tables: &'a Tables<F>,
     ) -> Result<Sending<'a, F>, AllocError> {
-        let symbols = draws.place(4) + 1;
+        let message = draw_message::<F>(heap, draws)?;
+        let symbols = message.len();
         let times = symbols.saturating_add(framed.degree());
-        let mut message = vec![in heap; F::zero(); symbols]?;
-        for x in message.iter_mut() {
-            *x = member_of(draws.code::<F>());
-        }
         Ok(Sending {
             row,
             framed,

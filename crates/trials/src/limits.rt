@@ -1,7 +1,7 @@
 // The limits of the calls: what just passes, and what is refused by which number.
 use crate::station::Tables;
 use crate::tally::Tally;
-use crate::worked::{Term, row_of, square_and_line};
+use crate::worked::{square_and_line, with_divisor_s};
 use cards::read::read_card;
 use cards::write::write_card;
 use design::draft::Draft;
@@ -12,7 +12,6 @@ use link::calls::{check, encode, invert};
 use std::alloc::{AllocError, Global};
 use tones::Tone;
 use trial_support::faults::Fault;
-use trial_support::rows::Row;
 use trial_support::sizes::{CARD, GENERATORS, POWERS, ROW};
 
 // The longest message. Not the link's `SYMBOLS`: it is this number that the calls are to confirm.
@@ -123,16 +122,11 @@ fn try_link(framed: &Framed, shared: &Framed, tables: &Tables<Tone>) -> Tally {
     tally
 }
 
-// (s^2, s), whose divisor is s.
-fn square_and_shift() -> Row {
-    row_of(2, &[Term(0, 2, 1), Term(1, 1, 1)])
-}
-
 // The link at its limits.
 fn try_lengths(heap: Global) -> Result<Tally, AllocError> {
     let mut tally = Tally::default();
     let mut tables = Tables::<Tone>::full(heap)?;
-    let shared = tables.frame(&square_and_shift());
+    let shared = tables.frame(&with_divisor_s());
     let framed = tables.frame(&square_and_line());
     if let (Some(shared), Some(framed)) = (shared, framed) {
         for symbols in [0, 1, 2, LONGEST - 1, LONGEST, LONGEST + 1] {

@@ -6,6 +6,7 @@ mod framed;
 mod keeping;
 mod limits;
 mod offers;
+mod runs;
 mod station;
 mod tally;
 mod worked;
@@ -17,6 +18,7 @@ use keeping::{try_card, writing_agrees};
 use limits::try_limits;
 use nibbles::Nibble;
 use offers::try_offers;
+use runs::Listed;
 use station::Tables;
 use std::alloc::{AllocError, Global};
 use tally::Tally;
@@ -38,11 +40,12 @@ struct Counts {
     refused: Tally,
     written: Tally,
     read: Tally,
+    runs: Tally,
 }
 
 impl Counts {
     // What was tried, in words, with its tally.
-    fn lines(&self) -> [(&'static str, Tally); 8] {
+    fn lines(&self) -> [(&'static str, Tally); 9] {
         [
             (
                 "framed; frame, numbers and products by the second solver",
@@ -61,6 +64,10 @@ impl Counts {
             ("offered frames refused, as judged apart", self.refused),
             ("cards written, byte for byte", self.written),
             ("cards read, whole, cut and damaged", self.read),
+            (
+                "rows whose calls, performed as lists, were answered as single calls",
+                self.runs,
+            ),
         ]
     }
 }
@@ -70,6 +77,8 @@ impl Counts {
 struct Trials<F: Field + Drop> {
     heap: Global,
     draws: Draws,
+    // What the messages sent by lists of calls are drawn from.
+    messages: Draws,
     tables: Tables<F>,
     counts: Counts,
 }
@@ -79,6 +88,7 @@ impl<F: Field + Clone + Drop> Trials<F> {
         Ok(Trials {
             heap,
             draws: Draws::from_seed(seed),
+            messages: Draws::from_seed(seed),
             tables: Tables::full(heap)?,
             counts: Counts::default(),
         })
@@ -132,7 +142,19 @@ impl<F: Field + Clone + Drop> Trials<F> {
         Ok(())
     }
 
-    // Draws rows of one shape and tries each, and the card of each eighth.
+    // Performs the calls of a row that is not all zero as lists.
+    fn try_runs(&mut self, row: &Row) -> Result<(), AllocError> {
+        let Some(framed) = self.tables.frame(row) else {
+            self.counts.runs.note(false);
+            return Ok(());
+        };
+        let own = Tables::full(self.heap)?;
+        let listed = Listed::draw(self.heap, &mut self.messages, row, &framed, &self.tables)?;
+        self.counts.runs.note(listed.agrees(own)?);
+        Ok(())
+    }
+
+    // Draws rows of one shape and tries each, and of each eighth the card and lists of calls.
     fn try_shape(&mut self, shape: Shape, rows: u32) -> Result<(), AllocError> {
         for number in 0..rows {
             let row = draw_row::<F>(&mut self.draws, shape);
@@ -146,10 +168,20 @@ impl<F: Field + Clone + Drop> Trials<F> {
             }
             if number % 8 == 0 {
                 self.try_keeping(&row)?;
+                self.try_runs(&with_a_term(row))?;
             }
         }
         Ok(())
     }
+}
+
+// A row, or (1, 0, .., 0) in place of one that is all zero.
+fn with_a_term(row: Row) -> Row {
+    let mut row = row;
+    if row.is_zero() {
+        row.put(0, 0, 1);
+    }
+    row
 }
 
 // How many rows of each shape are drawn over each field.

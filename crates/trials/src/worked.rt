@@ -80,13 +80,22 @@ pub fn try_twos(tables: &mut Tables<Tone>) -> Tally {
     let [a, b, c, d, e] = columns;
     tally.note(frames_to(tables, &row, &[a, b, c, d, e, Entry(8, 0, 0, 1)], 256));
     // (s^2, s^2 + s): the same columns, divisor s
-    let row = row_of(2, &[Term(0, 2, 1), Term(1, 1, 1), Term(1, 2, 1)]);
-    tally.note(frames_to(tables, &row, &[a, b, c, d, e, Entry(8, 0, 1, 1)], 256));
+    tally.note(frames_to(
+        tables,
+        &with_divisor_s(),
+        &[a, b, c, d, e, Entry(8, 0, 1, 1)],
+        256,
+    ));
     // (0, 5): (0, 25), (1, 0)
     let row = row_of(2, &[Term(1, 0, 5)]);
     let entries = [Entry(0, 1, 0, 25), Entry(1, 0, 0, 1), Entry(8, 0, 0, 1)];
     tally.note(frames_to(tables, &row, &entries, 0));
     tally
+}
+
+// (s^2, s^2 + s) over tones, whose divisor is s.
+pub fn with_divisor_s() -> Row {
+    row_of(2, &[Term(0, 2, 1), Term(1, 1, 1), Term(1, 2, 1)])
 }
 
 // (s^2, s + 1) over tones.
@@ -129,6 +138,59 @@ pub fn try_more(tables: &mut Tables<Tone>) -> Tally {
         Entry(8, 0, 0, 1),
     ];
     tally.note(frames_to(tables, &row, &entries, 196608));
+    tally
+}
+
+// Designs over tones: one whose column 0 is shorter than Euclid's, (1, 1 + 30s, 0), and one whose divisor has degree 16.
+pub fn try_others(tables: &mut Tables<Tone>) -> Tally {
+    let mut tally = Tally::default();
+    // (s^2, s + 1, 1): (0, 0, 1), (30, 30 + s, 1), (0, 30, 1 + s)
+    let row = row_of(
+        3,
+        &[Term(0, 2, 1), Term(1, 0, 1), Term(1, 1, 1), Term(2, 0, 1)],
+    );
+    let entries = [
+        Entry(0, 2, 0, 1),
+        Entry(1, 0, 0, 30),
+        Entry(1, 1, 0, 30),
+        Entry(1, 1, 1, 1),
+        Entry(1, 2, 0, 1),
+        Entry(2, 1, 0, 30),
+        Entry(2, 2, 0, 1),
+        Entry(2, 2, 1, 1),
+        Entry(8, 0, 0, 1),
+    ];
+    tally.note(frames_to(tables, &row, &entries, 65792));
+    // (s^16, s^16): (1, 0), (30, 1), divisor s^16
+    let row = row_of(2, &[Term(0, 16, 1), Term(1, 16, 1)]);
+    let entries = [
+        Entry(0, 0, 0, 1),
+        Entry(1, 0, 0, 30),
+        Entry(1, 1, 0, 1),
+        Entry(8, 0, 16, 1),
+    ];
+    tally.note(frames_to(tables, &row, &entries, 0));
+    tally
+}
+
+// Eight generators of degree 16, (s^16, 0, .., 0, 1), over tones: (0, .., 0, 1), the unit vectors 1 to 6, (30, 0, .., 0, s^16)
+pub fn try_largest(tables: &mut Tables<Tone>) -> Tally {
+    let mut tally = Tally::default();
+    let row = row_of(8, &[Term(0, 16, 1), Term(7, 0, 1)]);
+    let entries = [
+        Entry(0, 7, 0, 1),
+        Entry(1, 1, 0, 1),
+        Entry(2, 2, 0, 1),
+        Entry(3, 3, 0, 1),
+        Entry(4, 4, 0, 1),
+        Entry(5, 5, 0, 1),
+        Entry(6, 6, 0, 1),
+        Entry(7, 0, 0, 30),
+        Entry(7, 7, 16, 1),
+        Entry(8, 0, 0, 1),
+    ];
+    // Column 7 has degree 16, all others have degree 0.
+    tally.note(frames_to(tables, &row, &entries, 16 << 56));
     tally
 }
 
@@ -191,6 +253,8 @@ pub fn try_worked<F: Field + Clone + Drop>(heap: Global) -> Result<Tally, AllocE
     let mut bytes = Tables::<F>::full(heap)?;
     let mut tally = try_twos(&mut tones);
     tally.add(try_more(&mut tones));
+    tally.add(try_others(&mut tones));
+    tally.add(try_largest(&mut tones));
     tally.add(try_bytes(&mut bytes));
     tally.add(try_block(&mut tones));
     tally.add(try_card_bytes(&mut tones));

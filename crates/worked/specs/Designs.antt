@@ -9,6 +9,10 @@ use Rattle.pairs.specs.Pairs.{PairMember, pair}
 abbrev design : ℕ → List (List ℕ) → List ℕ → ℕ → List (List (List ℕ)) → Design
 design m a g d c = record { m = m; generators = a; divisor = g; degree = d; columns = c }
 
+-- (s^2, s^2 + s), whose divisor is s
+abbrev pub shared_design : Design
+shared_design = design 1 ((0 ∷ 0 ∷ 1 ∷ []) ∷ (0 ∷ 1 ∷ 1 ∷ []) ∷ []) (0 ∷ 1 ∷ []) 1 (((30 ∷ []) ∷ (1 ∷ []) ∷ []) ∷ ((30 ∷ 30 ∷ []) ∷ (0 ∷ 1 ∷ []) ∷ []) ∷ [])
+
 abbrev pub tone_designs : List Design
 tone_designs =
     -- (1, s)
@@ -17,8 +21,7 @@ tone_designs =
     ∷ design 2 ((1 ∷ []) ∷ (0 ∷ 1 ∷ []) ∷ (0 ∷ 0 ∷ 1 ∷ []) ∷ []) (1 ∷ []) 2 (((1 ∷ []) ∷ [] ∷ [] ∷ []) ∷ ((0 ∷ 1 ∷ []) ∷ (30 ∷ []) ∷ [] ∷ []) ∷ ([] ∷ (0 ∷ 1 ∷ []) ∷ (30 ∷ []) ∷ []) ∷ [])
     -- (s, s + 1)
     ∷ design 1 ((0 ∷ 1 ∷ []) ∷ (1 ∷ 1 ∷ []) ∷ []) (1 ∷ []) 1 (((30 ∷ []) ∷ (1 ∷ []) ∷ []) ∷ ((30 ∷ 30 ∷ []) ∷ (0 ∷ 1 ∷ []) ∷ []) ∷ [])
-    -- (s^2, s^2 + s)
-    ∷ design 1 ((0 ∷ 0 ∷ 1 ∷ []) ∷ (0 ∷ 1 ∷ 1 ∷ []) ∷ []) (0 ∷ 1 ∷ []) 1 (((30 ∷ []) ∷ (1 ∷ []) ∷ []) ∷ ((30 ∷ 30 ∷ []) ∷ (0 ∷ 1 ∷ []) ∷ []) ∷ [])
+    ∷ shared_design
     -- (s^2, s + 1)
     ∷ design 1 ((0 ∷ 0 ∷ 1 ∷ []) ∷ (1 ∷ 1 ∷ []) ∷ []) (1 ∷ []) 2 (((1 ∷ []) ∷ (1 ∷ 30 ∷ []) ∷ []) ∷ ((30 ∷ 30 ∷ []) ∷ (0 ∷ 0 ∷ 1 ∷ []) ∷ []) ∷ [])
     -- (0, 5)
