@@ -1,8 +1,9 @@
-// Performs the script on standard input, as `tonelink run` does: the stored run of a script.
+// `tonelink run -`: the stored run of a script on standard input.
 #![tactic(auto)]
 
-use script_runner::input::run_input;
+use script_runner::command::run_words;
 
 fn main(rt: HostRuntime) -> anyhow::Result<()> {
-    run_input(&rt)
+    run_words(&rt)?;
+    Ok(())
 }

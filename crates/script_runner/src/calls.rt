@@ -1,6 +1,6 @@
 // The calls of a script, each answered by the text that is printed of it.
 use crate::desk::Desk;
-use crate::elements::{bytes, elements, zeros};
+use crate::elements::{elements, zeros};
 use crate::offered::offered;
 use crate::stopped::{Reason, Stopped};
 use crate::text::{CodesText, FrameText, GeneratorsText, StandingText};
@@ -30,21 +30,16 @@ impl<F: Field> Desk<F> {
         Ok(format!(in self.heap; "{standing}")?)
     }
 
-    // A draft that a call gave takes the place of the design before.
-    fn stands(&mut self, draft: Draft) -> Result<String, Stopped> {
+    fn begin(&mut self, n: u32) -> Result<String, Stopped> {
+        let draft = Draft::begin(n as usize, &mut self.generators)?;
         self.design = Some(Design::Draft(draft));
         self.standing()
     }
 
-    fn begin(&mut self, n: u32) -> Result<String, Stopped> {
-        let draft = Draft::begin(n as usize, &mut self.generators)?;
-        self.stands(draft)
-    }
-
-    fn read(&mut self, numbers: &[u32]) -> Result<String, Stopped> {
-        let card = bytes(self.heap, numbers)?;
-        let draft = read_card(&card, &mut self.generators)?;
-        self.stands(draft)
+    fn read(&mut self, card: &[u8]) -> Result<String, Stopped> {
+        let draft = read_card(card, &mut self.generators)?;
+        self.design = Some(Design::Draft(draft));
+        self.standing()
     }
 
     // Performs a list of one request on the design.

@@ -1,5 +1,6 @@
 // The tables of one field, and the design that stands in them.
-ghost use Rattle.std.specs.Prelude.{◌≡◌, length};
+ghost use Rattle.std.specs.Prelude.{◌≡◌, length, IfSome};
+ghost use Rattle.history.specs.Steps.{Stands};
 ghost use Rattle.tables.specs.declared.sizes.TheConstants.{GENERATORS};
 
 use crate::elements::zeros;
@@ -19,6 +20,8 @@ pub struct Desk<F: Field> {
     pub(crate) generators: Vec<F>,
     pub(crate) frame: Vec<F>,
     ghost long: { length generators.items ≡ GENERATORS },
+    // A design that is framed keeps its promise.
+    ghost stands: { ∥ IfSome design (λ d. Stands F.ops F.member d generators.items frame.items) ∥₁ },
 }
 
 impl<F: Field> Desk<F> {

@@ -1,7 +1,9 @@
-// Numbers of a script as elements and as bytes.
-ghost use Rattle.std.specs.Prelude.{◌≡◌, length, IfOk};
+// Numbers of a script as elements.
+ghost use Rattle.std.specs.Prelude.{◌≡◌, length, IfOk, MatchResult};
+ghost use Rattle.scripts.specs.Meaning.{Each};
+ghost use Rattle.script_runner.specs.Elements.{Meant, Unmeant};
 
-use crate::stopped::{Reason, Stopped};
+use crate::stopped::Stopped;
 use fields::field::Field;
 use std::alloc::{AllocError, Global};
 
@@ -13,17 +15,13 @@ pub fn zeros<F: Field>(heap: Global, n: usize) -> Result<Vec<F>, AllocError>
 }
 
 // The elements of codes.
-pub fn elements<F: Field>(heap: Global, codes: &[u32]) -> Result<Vec<F>, Stopped> {
-    codes
-        .iter()
-        .map(|code| -> Result<F, Stopped> { Ok(F::element(*code)?) })
-        .try_collect(heap)
-}
-
-// The numbers as bytes.
-pub fn bytes(heap: Global, numbers: &[u32]) -> Result<Vec<u8>, Stopped> {
-    numbers
-        .iter()
-        .map(|n| -> Result<u8, Stopped> { Ok(u8::try_from(*n).or(Err(Reason::NoByte))?) })
-        .try_collect(heap)
+pub fn elements<F: Field>(heap: Global, codes: &[u32]) -> Result<Vec<F>, Stopped>
+    ensures { MatchResult result (λ v. Each (Meant F.number F.member F.order) codes.now v.items) (Unmeant F.order codes.now) }
+{
+    let mut out = Vec::new(heap);
+    for code in codes {
+        let x = F::element(*code)?;
+        out.push(x)?;
+    }
+    Ok(out)
 }

@@ -2,10 +2,11 @@
 #![tactic(auto)]
 
 mod calls;
+pub mod command;
 mod desk;
 mod elements;
-pub mod input;
+mod input;
 mod offered;
-pub mod run;
+mod run;
 mod stopped;
 mod text;

@@ -1,4 +1,7 @@
 // Why a call of a script did nothing.
+ghost use Rattle.std.specs.Prelude.{◌≡◌};
+ghost use Rattle.script_runner.specs.declared.stopped.Stopped.TheVariants.{NoMemory, Field};
+
 use cards::fault::CardFault;
 use design::fault::DesignFault;
 use fields::fault::{FieldFault, Refusal};
@@ -14,7 +17,6 @@ pub enum Reason {
     NoDesign,
     Draft,
     Framed,
-    NoByte,
 }
 
 impl Reason {
@@ -33,7 +35,6 @@ impl fmt::Display for Reason {
             Reason::NoDesign => write!(f, "there is no design"),
             Reason::Draft => write!(f, "the design is a draft"),
             Reason::Framed => write!(f, "the design is framed"),
-            Reason::NoByte => write!(f, "a byte is at most 255"),
         }
     }
 }
@@ -56,6 +57,8 @@ impl From<AllocError> for Stopped {
 }
 
 impl<T: Drop> From<AllocFailed<T>> for Stopped {
+    ghost from_gives = { λ _ r. r ≡ NoMemory };
+
     fn from(_refused: AllocFailed<T>) -> Stopped {
         Stopped::NoMemory
     }
@@ -74,6 +77,8 @@ impl From<Reason> for Stopped {
 }
 
 impl From<FieldFault> for Stopped {
+    ghost from_gives = { λ f r. r ≡ Field f };
+
     fn from(fault: FieldFault) -> Stopped {
         Stopped::Field(fault)
     }

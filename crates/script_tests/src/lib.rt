@@ -50,6 +50,14 @@ mod tests {
         }
     }
 
+    // The bytes of a card.
+    fn card(heap: Global, line: &[u8]) -> Result<Vec<u8>, Fail> {
+        match read_line(heap, line)? {
+            Line::Call(Call::Read { bytes }) => Ok(bytes),
+            _ => Err(Fail::new("a card was expected")),
+        }
+    }
+
     fn field(heap: Global, line: &[u8]) -> Result<Option<FieldName>, AllocError> {
         match read_line(heap, line)? {
             Line::Call(Call::Field(name)) => Ok(Some(name)),
@@ -98,6 +106,7 @@ mod tests {
         assert_eq!(rt; missing(heap, b"Frame")?, Some(Expected::Call));
         assert_eq!(rt; missing(heap, b"3 begin")?, Some(Expected::Call));
         assert_eq!(rt; missing(heap, b"begins 3")?, Some(Expected::Call));
+        assert_eq!(rt; missing(heap, b"|frame")?, Some(Expected::Call));
         assert_eq!(rt; missing(heap, b"\xff")?, Some(Expected::Call));
         Ok(())
     }
@@ -112,8 +121,16 @@ mod tests {
         assert_eq!(rt; unfit(heap, b"put 1 2 x")?, Some(Keyword::Put));
         assert_eq!(rt; unfit(heap, b"column 1")?, Some(Keyword::Column));
         assert_eq!(rt; unfit(heap, b"frame now")?, Some(Keyword::Frame));
-        assert_eq!(rt; unfit(heap, b"invert")?, Some(Keyword::Invert));
+        assert_eq!(rt; unfit(heap, b"reopen 1")?, Some(Keyword::Reopen));
+        assert_eq!(rt; unfit(heap, b"encode 1 |")?, Some(Keyword::Encode));
         assert_eq!(rt; unfit(heap, b"check 1 -2")?, Some(Keyword::Check));
+        assert_eq!(rt; unfit(heap, b"invert")?, Some(Keyword::Invert));
+        assert_eq!(rt; unfit(heap, b"invert x 1")?, Some(Keyword::Invert));
+        assert_eq!(rt; unfit(heap, b"card 0")?, Some(Keyword::Card));
+        assert_eq!(rt; unfit(heap, b"read 1 2,3")?, Some(Keyword::Read));
+        assert_eq!(rt; unfit(heap, b"read 255 256")?, Some(Keyword::Read));
+        assert_eq!(rt; unfit(heap, b"read 4294967552")?, Some(Keyword::Read));
+        assert_eq!(rt; unfit(heap, b"show all")?, Some(Keyword::Show));
         assert_eq!(rt; unfit(heap, b"field moons")?, Some(Keyword::Field));
         assert_eq!(rt; unfit(heap, b"field tones bytes")?, Some(Keyword::Field));
         Ok(())
@@ -132,11 +149,14 @@ mod tests {
         let heap = rt.alloc();
         assert_eq!(rt; offered(heap, b"offer 1 1,30 | 30,30 0,0,1")?, Some(2));
         assert_eq!(rt; offered(heap, b"offer 0")?, Some(1));
+        assert_eq!(rt; offered(heap, b"offer 1 1,30|30,30 0,0,1|0")?, Some(3));
+        assert_eq!(rt; offered(heap, b"offer 1| 2 |3")?, Some(3));
         assert_eq!(rt; unfit(heap, b"offer")?, Some(Keyword::Offer));
         assert_eq!(rt; unfit(heap, b"offer 1 | | 2")?, Some(Keyword::Offer));
         assert_eq!(rt; unfit(heap, b"offer | 1")?, Some(Keyword::Offer));
         assert_eq!(rt; unfit(heap, b"offer 1 |")?, Some(Keyword::Offer));
-        assert_eq!(rt; unfit(heap, b"offer 1|2")?, Some(Keyword::Offer));
+        assert_eq!(rt; unfit(heap, b"offer 1||2")?, Some(Keyword::Offer));
+        assert_eq!(rt; unfit(heap, b"offer|1")?, Some(Keyword::Offer));
         assert_eq!(rt; unfit(heap, b"offer 1,,2")?, Some(Keyword::Offer));
         assert_eq!(rt; unfit(heap, b"offer ,")?, Some(Keyword::Offer));
         assert_eq!(rt; unfit(heap, b"offer 1,x")?, Some(Keyword::Offer));
@@ -160,6 +180,11 @@ mod tests {
         assert!(rt; !is_frame(heap, b"reopen")?);
         assert!(rt; encoded(heap, b"encode")?.is_empty());
         assert!(rt; encoded(heap, b"encode 3 1")?.len() == 2);
+        assert!(rt; card(heap, b"read")?.is_empty());
+        assert_eq!(rt;
+            card(heap, b"read 0 255 7")?.as_slice(),
+            [0, 255, 7].as_slice()
+        );
         Ok(())
     }
 }

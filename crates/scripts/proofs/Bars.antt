@@ -1,10 +1,11 @@
 -- The columns of an offer, read word by word.
 use Rattle.std.proofs.Common.{◌≡◌, ℕ, ◌<◌, true, false, List, [], ◌∷◌, ◌++◌, length, vec_items, Vec, sym, refl, ap, ◌∙◌, subst, arith}
 use Rattle.std.proofs.lemmas.List.{append-nil, append_assoc, nil_from_length}
-use Rattle.std.proofs.lemmas.Bool.{cond-true, cond-false, cond_both}
+use Rattle.std.proofs.lemmas.Bool.{cond-true, cond-false}
 use Rattle.std.specs.declared.alloc.Global.{Global}
 use Rattle.scripts.specs.Meaning.{Each, Polynomial, Components, bar}
 use Rattle.scripts.specs.Words.{onto, pieces}
+use Rattle.scripts.proofs.Pieces.{joins, joins_none}
 use Rattle.scripts.proofs.Each.{each_push, each_stuck, each_length, Sofar}
 
 abbrev Words : Type 0
@@ -16,22 +17,9 @@ Component w p = Polynomial w (vec_items p)
 abbrev pub Column : Words → Vec (Vec ℕ Global) Global → Type 0
 Column us c = Components us (vec_items c)
 
--- words in front of the first piece
-abbrev pub joins : Words → List Words → List Words
-joins us [] = us ∷ []
-joins us (p ∷ ps) = (us ++ p) ∷ ps
-
 joins_onto : (us : Words) (w : List ℕ) (ps : List Words) → joins us (onto w ps) ≡ joins (us ++ w ∷ []) ps
 joins_onto us w [] = refl
 joins_onto us w (p ∷ ps) = ap (λ l. l ∷ ps) (sym (append_assoc us (w ∷ []) p))
-
-joins_nothing : (w : List ℕ) (ps : List Words) → joins [] (onto w ps) ≡ onto w ps
-joins_nothing w [] = refl
-joins_nothing w (p ∷ ps) = refl
-
-joins_none : (ws : Words) → joins [] (pieces bar ws) ≡ pieces bar ws
-joins_none [] = refl
-joins_none (w ∷ ws) = cond_both (bar w) ([] ∷ pieces bar ws) (onto w (pieces bar ws)) (λ ps. joins [] ps ≡ ps) (λ e. refl) (λ e. joins_nothing w (pieces bar ws))
 
 pub pieces_bar : (left : Words) (w : List ℕ) (rest : Words) → left ≡ w ∷ rest → bar w ≡ true → pieces bar left ≡ [] ∷ pieces bar rest
 pieces_bar left w rest e b = ap (pieces bar) e ∙ cond-true (bar w) ([] ∷ pieces bar rest) (onto w (pieces bar rest)) b
@@ -48,7 +36,7 @@ pub record Reading (whole left : Words) (cs : List (Vec (Vec ℕ Global) Global)
   pub current : Each Component us ps
 
 pub reading_none : (whole : Words) → Reading whole whole [] []
-reading_none whole = record { fronts = []; us = []; split = joins_none whole; finished = tt; current = tt }
+reading_none whole = record { fronts = []; us = []; split = joins_none bar whole; finished = tt; current = tt }
 
 pub reading_word : (whole left : Words) (cs : List (Vec (Vec ℕ Global) Global)) (ps : List (Vec ℕ Global)) (w : List ℕ) (rest : Words) (p : Vec ℕ Global) → Reading whole left cs ps → left ≡ w ∷ rest → bar w ≡ false → Component w p → Reading whole rest cs (ps ++ p ∷ [])
 reading_word whole left cs ps w rest p r e b h = record {
@@ -68,7 +56,7 @@ reading_close whole left cs c more r e some = record {
 }
 
 pub reading_next : (whole rest : Words) (cs : List (Vec (Vec ℕ Global) Global)) → Sofar Column (pieces bar whole) (pieces bar rest) cs → Reading whole rest cs []
-reading_next whole rest cs s = record { fronts = s.front; us = []; split = ap (λ l. s.front ++ l) (joins_none rest) ∙ s.split; finished = s.each; current = tt }
+reading_next whole rest cs s = record { fronts = s.front; us = []; split = ap (λ l. s.front ++ l) (joins_none bar rest) ∙ s.split; finished = s.each; current = tt }
 
 -- no column fits
 module _ (whole left : Words) (cs : List (Vec (Vec ℕ Global) Global)) (ps : List (Vec ℕ Global)) (r : Reading whole left cs ps) where

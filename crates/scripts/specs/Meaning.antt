@@ -12,7 +12,7 @@ use Rattle.scripts.specs.declared.call.Keyword.TheVariants as key
 use Rattle.scripts.specs.declared.line.Expected.TheVariants as expected
 use Rattle.scripts.specs.declared.line.Line.{Line}
 use Rattle.scripts.specs.declared.line.Line.TheVariants as line
-use Rattle.scripts.specs.Numbers.{Number}
+use Rattle.scripts.specs.Numbers.{Number, Byte}
 use Rattle.scripts.specs.Spelling.{spelled, named}
 use Rattle.scripts.specs.Words.{marks, pieces}
 use Rattle.scripts.specs.declared.words.Mark.TheVariants.{Comma}
@@ -26,6 +26,9 @@ Each R (x ∷ xs) (y ∷ ys) = R x y × Each R xs ys
 
 abbrev pub Numbers : List (List ℕ) → List ℕ → Type 0
 Numbers ws ns = Each Number ws ns
+
+abbrev pub Bytes : List (List ℕ) → List ℕ → Type 0
+Bytes ws ns = Each Byte ws ns
 
 -- a number, and then these words
 abbrev pub StartsWith : List (List ℕ) → ℕ → List (List ℕ) → Type 0
@@ -59,7 +62,7 @@ Means key.Encode ws c = (v : _) × Numbers ws (vec_items v) × (c ≡ call.Encod
 Means key.Check ws c = (v : _) × Numbers ws (vec_items v) × (c ≡ call.Check v)
 Means key.Invert ws c = (l : ℕ) × (v : _) × Numbers ws (l ∷ vec_items v) × (c ≡ call.Invert l v)
 Means key.Card ws c = (ws ≡ []) × (c ≡ call.Card)
-Means key.Read ws c = (v : _) × Numbers ws (vec_items v) × (c ≡ call.Read v)
+Means key.Read ws c = (v : _) × Bytes ws (vec_items v) × (c ≡ call.Read v)
 Means key.Offer ws c = (v : _) × Columns ws (vec_items v) × (c ≡ call.Offer v)
 Means key.Show ws c = (ws ≡ []) × (c ≡ call.Show)
 

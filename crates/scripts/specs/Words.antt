@@ -1,13 +1,15 @@
 -- The parts of a text, a list of bytes. The clauses of `cut_at` and `first_word`, and the iterators, cite it; it assumes nothing.
 use Rattle.std.specs.Prelude.{ℕ, Bool, cond, ◌||◌, List, [], ◌∷◌, ◌==◌, Some, None}
 use Rattle.scripts.specs.declared.words.Mark.{Mark}
-use Rattle.scripts.specs.declared.words.Mark.TheVariants.{Blank, Comma, Hash, Newline}
+use Rattle.scripts.specs.declared.words.Mark.TheVariants.{Blank, Bar, Break, Comma, Hash, Newline}
 use Rattle.scripts.specs.declared.words.Pieces.{Pieces}
 use Rattle.scripts.specs.declared.words.Words.{Words}
 
--- whether a byte is that mark: a blank, tab or carriage return; a comma; a hash; a newline
+-- whether a byte is that mark: a blank, tab or carriage return; a bar; one of these, which ends a word; a comma; a hash; a newline
 abbrev pub marks : Mark → ℕ → Bool
 marks Blank b = b == 32 || (b == 9 || b == 13)
+marks Bar b = b == 124
+marks Break b = b == 124 || (b == 32 || (b == 9 || b == 13))
 marks Comma b = b == 44
 marks Hash b = b == 35
 marks Newline b = b == 10
@@ -32,9 +34,14 @@ filled [] = []
 filled ([] ∷ ps) = filled ps
 filled ((b ∷ p) ∷ ps) = (b ∷ p) ∷ filled ps
 
--- the words of a text stand between its blanks
+-- a text with a blank on either side of each bar
+abbrev pub spaced : List ℕ → List ℕ
+spaced [] = []
+spaced (b ∷ bs) = cond (marks Bar b) (32 ∷ 124 ∷ 32 ∷ spaced bs) (b ∷ spaced bs)
+
+-- the words of a text stand between its blanks, and a bar is a word of its own
 abbrev pub words : List ℕ → List (List ℕ)
-words bs = filled (pieces (marks Blank) bs)
+words bs = filled (pieces (marks Blank) (spaced bs))
 
 -- a comment begins with a hash
 abbrev pub uncommented : List ℕ → List ℕ

@@ -2,11 +2,11 @@
 ghost use Rattle.std.specs.Prelude.{◌≡◌, ℕ, List, [], ◌∷◌, MatchResult};
 ghost use Rattle.scripts.specs.declared.arguments.Unread.TheVariants.{NoMemory};
 ghost use Rattle.scripts.specs.declared.call.Keyword.TheVariants as key;
-ghost use Rattle.scripts.specs.Meaning.{Numbers, StartsWith, Fails, Taken};
+ghost use Rattle.scripts.specs.Meaning.{Numbers, Bytes, StartsWith, Fails, Taken};
 ghost use Rattle.scripts.specs.Words.{words};
 
 use crate::call::{Call, FieldName, Keyword};
-use crate::number::number;
+use crate::number::{byte, number};
 use crate::offer::offer;
 use crate::words::{Parts, Words, first_word};
 use std::alloc::{AllocError, AllocFailed, Global};
@@ -35,6 +35,18 @@ pub(crate) fn numbers<'a, P: Parts<'a>>(heap: Global, parts: P) -> Result<Vec<u3
     for part in parts {
         let n = number(part).ok_or(Unread::NoFit)?;
         out.push(n)?;
+    }
+    Ok(out)
+}
+
+// The bytes that the words of a text write.
+fn bytes(heap: Global, text: &[u8]) -> Result<Vec<u8>, Unread>
+    ensures { MatchResult result (λ v. Bytes (words text.now) v.items) (λ e. Fails e ((ns : List ℕ) × Bytes (words text.now) ns)) }
+{
+    let mut out = Vec::new(heap);
+    for word in Words(text) {
+        let b = byte(word).ok_or(Unread::NoFit)?;
+        out.push(b)?;
     }
     Ok(out)
 }
@@ -141,7 +153,7 @@ pub(crate) fn arguments(heap: Global, keyword: Keyword, text: &[u8]) -> Result<C
         Keyword::Invert => invert(heap, text),
         Keyword::Card => bare(text, Call::Card),
         Keyword::Read => Ok(Call::Read {
-            bytes: numbers(heap, Words(text))?,
+            bytes: bytes(heap, text)?,
         }),
         Keyword::Offer => offer(heap, text),
         Keyword::Show => bare(text, Call::Show),

@@ -132,7 +132,7 @@ impl Keyword {
     }
 
     // A line that begins with the keyword, by the names of what it takes.
-    pub fn form(self) -> &'static str {
+    pub(crate) fn form(self) -> &'static str {
         match self {
             Keyword::Field => "field tones|nibbles|bytes|tone-pairs",
             Keyword::Begin => "begin N",
@@ -179,7 +179,7 @@ pub enum Call {
     Check { block: Vec<u32> },
     Invert { symbols: u32, block: Vec<u32> },
     Card,
-    Read { bytes: Vec<u32> },
+    Read { bytes: Vec<u8> },
     // Columns, their components, and of each the codes from power 0 up.
     Offer { columns: Vec<Vec<Vec<u32>>> },
     Show,

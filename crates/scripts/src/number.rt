@@ -1,7 +1,7 @@
 // Numbers in base ten.
-ghost use Rattle.std.specs.Prelude.{MatchOption};
+ghost use Rattle.std.specs.Prelude.{ℕ, MatchOption};
 ghost use Rattle.std.specs.Str.Parse.{IsNumeral};
-ghost use Rattle.scripts.specs.Numbers.{Number};
+ghost use Rattle.scripts.specs.Numbers.{Number, Byte};
 
 // The number that a word writes, at most the largest of its type; none where the word is no number.
 // No `parse`: a number above the largest is read as the largest, and a sign is refused.
@@ -17,4 +17,12 @@ pub fn number(word: &[u8]) -> Option<u32>
         n = n.saturating_mul(10).saturating_add(digit);
     }
     Some(n)
+}
+
+// The byte that a word writes; none where the word is no number, or one that is too large.
+pub(crate) fn byte(word: &[u8]) -> Option<u8>
+    ensures { MatchOption result ((n : ℕ) → Byte word.now n → ⊥) (λ n. Byte word.now n) }
+{
+    let n = number(word)?;
+    u8::try_from(n).ok()
 }

@@ -1,5 +1,6 @@
 // A text cut at its marks, and its words.
-ghost use Rattle.std.specs.Prelude.{◌≡◌, ℕ, ◌<◌, ◌≤◌, true, false, List, [], ◌∷◌, length, IfSome, MatchOption, slice_index};
+ghost use Rattle.std.specs.Prelude.{◌≡◌, ℕ, ◌<◌, ◌≤◌, true, false, List, [], ◌∷◌, length, take, drop, IfSome, MatchOption, slice_index};
+ghost use Rattle.scripts.specs.declared.words.Mark.TheVariants.{Blank};
 ghost use Rattle.std.specs.Iterator.{YieldsFirstRef, IsFinite, item_count};
 ghost use Rattle.scripts.specs.Words.{marks, pieces, first_of, words, pieces_left, words_left};
 
@@ -8,6 +9,10 @@ ghost use Rattle.scripts.specs.Words.{marks, pieces, first_of, words, pieces_lef
 pub enum Mark {
     // A blank, a tab or a carriage return.
     Blank,
+    // |
+    Bar,
+    // A blank or a bar, which end a word.
+    Break,
     // ,
     Comma,
     // #
@@ -22,6 +27,8 @@ impl Mark {
     {
         match self {
             Mark::Blank => matches!(b, b' ' | b'\t' | b'\r'),
+            Mark::Bar => b == b'|',
+            Mark::Break => matches!(b, b'|' | b' ' | b'\t' | b'\r'),
             Mark::Comma => b == b',',
             Mark::Hash => b == b'#',
             Mark::Newline => b == b'\n',
@@ -59,6 +66,20 @@ pub fn cut_at<'a>(text: &'a [u8], mark: Mark) -> Cut<'a>
     }
 }
 
+// How long the word is that a text begins with: a bar alone, or up to a blank or a bar.
+fn word_length(text: &[u8]) -> usize
+    requires some { 0 < length text.now }
+    requires bare { marks Blank (slice_index text.now 0) ≡ false }
+    ensures within { result ≤ length text.now }
+    ensures some { 0 < result }
+    ensures word { words text.now ≡ take result text.now ∷ words (drop result text.now) }
+{
+    if Mark::Bar.is(text[0]) {
+        return 1;
+    }
+    before(text, Mark::Break)
+}
+
 // The first word of a text, and what follows it.
 #[derive(Clone, Copy)]
 pub struct First<'a> {
@@ -73,11 +94,8 @@ pub fn first_word<'a>(text: &'a [u8]) -> Option<First<'a>>
 {
     let start = text.iter().position(|b| !Mark::Blank.is(*b))?;
     let (_, left) = text.split_at(start);
-    let cut = cut_at(left, Mark::Blank);
-    Some(First {
-        word: cut.piece,
-        rest: cut.rest.unwrap_or(&[]),
-    })
+    let (word, rest) = left.split_at(word_length(left));
+    Some(First { word, rest })
 }
 
 // An iterator over parts of a text, which ends.

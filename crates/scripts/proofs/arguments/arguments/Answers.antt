@@ -10,5 +10,5 @@ returns-in_ok-numbers-in-Encode c = means_at _ key.Encode (words c.args.text.now
 pub returns-in_ok-numbers-in-Check : goal.returns-in_ok-numbers-in-Check
 returns-in_ok-numbers-in-Check c = means_at _ key.Check (words c.args.text.now) _ c.in-Check.is (_, c.in_ok-numbers-in-Check.ensures, refl)
 
-pub returns-in_ok-numbers-in-Read : goal.returns-in_ok-numbers-in-Read
-returns-in_ok-numbers-in-Read c = means_at _ key.Read (words c.args.text.now) _ c.in-Read.is (_, c.in_ok-numbers-in-Read.ensures, refl)
+pub returns-in_ok-bytes-in-Read : goal.returns-in_ok-bytes-in-Read
+returns-in_ok-bytes-in-Read c = means_at _ key.Read (words c.args.text.now) _ c.in-Read.is (_, c.in_ok-bytes-in-Read.ensures, refl)
