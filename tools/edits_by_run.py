@@ -32,6 +32,7 @@ NEAREST = {
     "random": "link_tests",
     "walkthrough": "tonelink",
     "scripts": "script_tests script_run",
+    "script_runner": "script_run",
     "test_support": "frame_tests offer_tests",
     "trial_support": "link_tests",
 }
