@@ -36,6 +36,9 @@ mod tests {
         assert_eq!(rt; refusal(draft.put(&mut table, 8, 16, 30)), Some(3));
         assert_eq!(rt; refusal(draft.put(&mut table, 7, 17, 30)), Some(4));
         assert_eq!(rt; refusal(draft.put(&mut table, 7, 16, 31)), Some(5));
+        let two = Draft::begin(2, &mut table)?;
+        assert_eq!(rt; refusal(two.put(&mut table, 1, 0, 1)), None);
+        assert_eq!(rt; refusal(two.put(&mut table, 2, 0, 1)), Some(3));
         Ok(())
     }
 
@@ -74,8 +77,9 @@ mod tests {
         draft.put(&mut table, 1, 0, 1)?;
         draft.put(&mut table, 1, 1, 1)?;
         assert_eq!(rt; write_card(&draft, &table, &mut card)?, 17);
-        let expected = [1u8, 2, 3, 1, 2, 2, 1, 0, 0, 0, 1, 0, 3, 1, 1, 0, 0, 0];
-        assert!(rt; card[0..18] == expected[0..18]);
+        let expected = [1u8, 2, 3, 1, 2, 2, 1, 0, 0, 0, 1, 0, 3, 1, 1, 0, 0];
+        assert!(rt; card[..17] == expected[..]);
+        assert!(rt; card[17..].iter().all(|byte| *byte == 0));
         Ok(())
     }
 }

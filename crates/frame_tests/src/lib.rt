@@ -283,8 +283,17 @@ mod tests {
             assert!(rt; table.iter().all(|x| x.code() == 7));
             framed = back.design;
         }
+        // What was handed back is (1, s) still: of degree 1, with columns of degree 0 and 1.
         assert_eq!(rt; framed.generators(), 2);
-        assert!(rt; framed.reopen(&mut frame).is_ok());
+        assert_eq!(rt; framed.degree(), 1);
+        assert_eq!(rt; framed.columns(), 256);
+        assert_eq!(rt;
+            framed
+                .reopen(&mut frame)
+                .map_err(|_| ())
+                .map(|draft| draft.count()),
+            Ok(2)
+        );
         assert_eq!(rt; sum_of_codes(&frame), 0);
         Ok(())
     }

@@ -180,6 +180,18 @@ mod tests {
         Ok(())
     }
 
+    // The check columns of (1, s, s^2) are (s, 30, 0) and (0, s, 30): a hit of the first stream is told by the first alone, and one of the
+    // third by the second.
+    #[test]
+    fn hits_that_one_column_tells(rt: HostRuntime) -> Result<(), Fail> {
+        let design = Design {
+            n: 3,
+            terms: &[Term(0, 0, 1), Term(1, 1, 1), Term(2, 2, 1)],
+        };
+        tells(&rt, design, &mut [Tone::T0; 9], 0)?;
+        tells(&rt, design, &mut [Tone::T0; 9], 2)
+    }
+
     // The check column of (1, s) is (s, 30): a hit of the second stream at time 0 is told by the sum at time 0 alone. That of (s^16, 1) is
     // (30, s^16): a hit of the second stream at the last time, 16, is told by the sum at time 32 alone.
     #[test]
@@ -211,16 +223,24 @@ mod tests {
             differences(&self.message, &self.back)
         }
 
-        // The block with the symbol at a place raised by one is unclean, and its message differs in at most two symbols.
-        fn hit(&mut self, rt: &impl Abort, place: usize) -> Result<(), Fail> {
+        // The block with the symbol at a place changed by so much is unclean, and its message differs in at most two symbols.
+        fn hit(&mut self, rt: &impl Abort, place: usize, change: F) -> Result<(), Fail> {
             let Some(symbol) = self.block.get(place).copied() else {
                 return Err(Fail::new("no such place"));
             };
-            self.write(place, symbol.add(F::one()));
+            self.write(place, symbol.add(change));
             assert_eq!(rt; self.station.check(&self.block), Ok(false));
             assert_eq!(rt; self.station.invert(&self.block, &mut self.back), Ok(()));
             assert!(rt; self.spoiled() <= 2);
             self.write(place, symbol);
+            Ok(())
+        }
+
+        // Changes each symbol of the block in turn. By place, since each hit changes the block.
+        fn hit_each(&mut self, rt: &impl Abort, change: F) -> Result<(), Fail> {
+            for place in 0..self.block.len() {
+                self.hit(rt, place, change)?;
+            }
             Ok(())
         }
 
@@ -232,16 +252,18 @@ mod tests {
         }
     }
 
-    // Sends a message of five symbols, and hits each symbol of its block in turn.
+    // Sends a message, which comes home.
     fn carries<F: Field + Clone>(
         rt: &(impl Abort + AllocGlobal),
         message: Vec<F>,
-    ) -> Result<(), Fail> {
+    ) -> Result<Transit<F>, Fail> {
+        let symbols = message.len();
+        let long = symbols.saturating_add(2).saturating_mul(2);
         let mut transit = Transit {
             station: Station::open(rt, APART)?,
             message,
-            block: vec![in rt.alloc(); F::zero(); 14]?,
-            back: vec![in rt.alloc(); F::zero(); 5]?,
+            block: vec![in rt.alloc(); F::zero(); long]?,
+            back: vec![in rt.alloc(); F::zero(); symbols]?,
         };
         let station = &transit.station;
         assert_eq!(rt;
@@ -251,30 +273,42 @@ mod tests {
         assert_eq!(rt; station.check(&transit.block), Ok(true));
         assert_eq!(rt; station.invert(&transit.block, &mut transit.back), Ok(()));
         assert_eq!(rt; transit.spoiled(), 0);
-        // By place, since each hit changes the block.
-        for place in 0..transit.block.len() {
-            transit.hit(rt, place)?;
-        }
-        Ok(())
+        Ok(transit)
     }
 
-    // Sends the message of five codes.
+    // Sends the message of five codes, and raises each symbol of its block by one.
     fn sends<F: Field + Clone>(rt: &(impl Abort + AllocGlobal), codes: &[u32]) -> Result<(), Fail> {
         let message = codes
             .iter()
             .map(|code| -> Result<F, Fail> { Ok(F::element(*code)?) })
             .try_collect(rt.alloc())?;
-        carries(rt, message)
+        carries(rt, message)?.hit_each(rt, F::one())
     }
 
-    // Sends five symbols whose codes look random.
+    // Sends five symbols whose codes look random, and raises each symbol of their block by one.
     fn sends_random<F: Field + Clone>(
         rt: &(impl Abort + AllocGlobal),
         seed: u32,
     ) -> Result<(), Fail> {
         let mut message = vec![in rt.alloc(); F::zero(); 5]?;
         Random::seeded(seed).fill(&mut message);
-        carries(rt, message)
+        carries(rt, message)?.hit_each(rt, F::one())
+    }
+
+    // Sends one symbol, and changes each symbol of its block to every other member.
+    fn sends_one<F: Field + Clone>(rt: &(impl Abort + AllocGlobal)) -> Result<(), Fail> {
+        let mut transit = carries(rt, vec![in rt.alloc(); F::one()]?)?;
+        for code in 1..F::size() {
+            transit.hit_each(rt, F::element(code)?)?;
+        }
+        Ok(())
+    }
+
+    #[test]
+    fn every_single_change_is_told(rt: HostRuntime) -> Result<(), Fail> {
+        sends_one::<Tone>(&rt)?;
+        sends_one::<Nibble>(&rt)?;
+        sends_one::<Byte>(&rt)
     }
 
     #[test]

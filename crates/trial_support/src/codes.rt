@@ -34,7 +34,7 @@ pub(crate) fn inverse<F: Field>(code: u16) -> F {
 }
 
 // The highest place at which a list is not zero.
-pub(crate) fn top_of(list: &[u16]) -> Option<usize>
+pub fn top_of(list: &[u16]) -> Option<usize>
     ensures place { IfSome result (λ i. i < length list.now) }
     ensures none { IfNone result (All (λ code. code ≡ 0) list.now) }
 {
