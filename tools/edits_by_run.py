@@ -64,8 +64,9 @@ def edited(path, folder):
 def run(crate, folder):
     """Runs a test crate or a program as compiled with checks; the interpreter, which is slower and does the same, gets one step."""
     is_program = (ROOT / "crates" / crate / "src/main.rt").exists()
-    given = ROOT / "crates" / crate / "stdin"
+    given, words = (ROOT / "crates" / crate / name for name in ("stdin", "args"))
     call = ["rt", "try", "--steps", "1"] + ([] if is_program else ["--test"])
+    call += ["--", *words.read_text().split()] if words.exists() else []
     how = {"input": given.read_bytes() if given.exists() else b"", "capture_output": True}
     said = subprocess.run(call, cwd=folder / "crates" / crate, **how)
     out, notes = (it.decode(errors="replace") for it in (said.stdout, said.stderr))
