@@ -27,4 +27,4 @@ invariant_of-self-2-clause-stands g c =
     rw (with_items_is self.generators c.perform.new.generators (omega arith), with_items_is self.frame c.perform.new.frame (omega arith))
     (∥∥₁_map (subst (λ o. ∥ IfSome o (λ d. Stands f.ops f.member d (vec_items self.generators) (vec_items self.frame)) ∥₁) is self.stands)
     (λ before. let same : Stands f.ops f.member design c.deref_mut.result.now c.deref_mut-2.result.now = rw (c.deref_mut.ensures.value, c.deref_mut-2.ensures.value) before in
-        stands_after f.ops f.member _ _ _ _ _ _ same (c.in_ok-done.ensures.promises same)))
+    stands_after f.ops f.member _ _ _ _ _ _ same (c.in_ok-done.ensures.promises same)))
