@@ -29,8 +29,8 @@ fn members_by_their_codes(rt: HostRuntime) -> Result<(), Fail> {
     members::<Byte>(&rt, 256, 4)
 }
 
-// 8·2 = x^4 = x + 1 and 2·9 = x^4 + x = 1; z·z = z + x^3 and z·(15 + 15z) = 15·8 = 1; i·i = −1 and (1 + i)·(16 + 15i) = 1 + 31i.
+// 5·25 = 125 = 4·31 + 1; 8·2 = x^4 = x + 1 and 2·9 = x^4 + x = 1; z·z = z + x^3 and z·(15 + 15z) = 15·8 = 1; i·i = −1 and (1 + i)·(16 + 15i) = 1 + 31i.
 #[test]
 fn products_worked_by_hand(rt: HostRuntime) {
-    assert_eq!(rt; worked_products(), [3, 1, 24, 1, 30, 1]);
+    assert_eq!(rt; worked_products(), [1, 3, 1, 24, 1, 30, 1]);
 }
