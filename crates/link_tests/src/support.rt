@@ -40,6 +40,17 @@ fn draws_below_one(rt: HostRuntime) {
     }
 }
 
+// From 2 on the first state has the upper bits 1649717740, and from 3 on 243117059.
+#[test]
+fn draws_from_seeds(rt: HostRuntime) {
+    assert_eq!(rt; Draws::from_seed(2).below(1000), 740);
+    assert_eq!(rt; Draws::from_seed(3).below(1000), 59);
+    let mut draws = Draws::from_seed(1);
+    for _ in 0..500 {
+        assert!(rt; draws.code::<Tone>() < 31);
+    }
+}
+
 #[test]
 fn codes_of_lists(rt: HostRuntime) {
     assert_eq!(rt; top_of(&[0, 3, 0]), Some(1));
@@ -78,7 +89,9 @@ fn messages_compared(rt: HostRuntime) {
 #[test]
 fn a_row_and_a_block(rt: HostRuntime) {
     let mut row = Row::zeros(2);
+    assert!(rt; row.is_zero());
     row.put(1, 1, 1);
+    assert!(rt; !row.is_zero());
     assert!(rt; row.is_alone(1));
     assert!(rt; !row.is_alone(0));
     assert_eq!(rt; row.polynomials().len(), 2);
