@@ -297,7 +297,7 @@ mod tests {
 
     // Sends one symbol, and changes each symbol of its block to every other member.
     fn sends_one<F: Field + Clone>(rt: &(impl Abort + AllocGlobal)) -> Result<(), Fail> {
-        let mut transit = carries(rt, vec![in rt.alloc(); F::one()]?)?;
+        let mut transit = carries(rt, vec![in rt.alloc(); F::one(); 1]?)?;
         for code in 1..F::size() {
             transit.hit_each(rt, F::element(code)?)?;
         }
