@@ -1,5 +1,5 @@
 -- A column taken by the steps of a value, and the steps after it. The clauses of the methods that take columns cite it; it assumes nothing.
-use Rattle.std.specs.Prelude.{ℕ, List, Bool}
+use Rattle.std.specs.Prelude.{◌≡◌, ℕ, List, Bool}
 use Rattle.elimination.specs.declared.Steps.{Steps}
 use Rattle.elimination.specs.Steps.{column_at, entry_at, Takes}
 use Rattle.elimination.specs.Echelon.{TakesNext}
@@ -15,3 +15,7 @@ abbrev pub TookNext : {F : Type 0} {f : _} → ℕ → Steps F f → Steps F f �
 TookNext {F} {f} q s t places c E pivotal =
     TakesNext f.ops s.rows q s.rank (column_at f.ops f.member s.rows s.factors.now) (entry_at s.pivots.now) places
     c (column_at f.ops f.member s.rows t.factors.now) (entry_at t.pivots.now) E pivotal
+
+-- t are steps over the very tables that were lent to s: when the loan ends, these tables hold what t says
+abbrev pub SameTables : {F : Type 0} {f : _} → Steps F f → Steps F f → Type 0
+SameTables s t = (t.factors.ghost_name ≡ s.factors.ghost_name) × (t.pivots.ghost_name ≡ s.pivots.ghost_name)

@@ -9,7 +9,7 @@ ghost use Rattle.elimination.specs.Steps.{reduced, column_at, entry_at, rank_aft
 use crate::step::{find_pivot, record_step, reduce};
 use fields::field::Field;
 
-mod step;
+pub mod step;
 mod take;
 
 // The steps found so far, in lent tables: the numbers of step t from rows * t on, and its pivot row at place t.
@@ -27,7 +27,8 @@ impl<'a, F: Field> Steps<'a, F> {
     // No steps yet, for columns of so many rows.
     pub fn new(rows: usize, factors: &'a mut [F], pivots: &'a mut [usize]) -> Steps<'a, F>
         requires { (rows * rows ≤ length factors.old) × (rows ≤ length pivots.old) }
-        ensures { (result.rows ≡ rows) × (result.rank ≡ 0) }
+        ensures none { (result.rows ≡ rows) × (result.rank ≡ 0) }
+        ensures lent { (result.factors.ghost_name ≡ factors.entry.ghost_name) × (result.pivots.ghost_name ≡ pivots.entry.ghost_name) }
     {
         Steps {
             rows,

@@ -7,7 +7,7 @@ use fields::field::Field;
 use tables::rows::add_multiple;
 
 // Performs step t, whose pivot row is p, on a column.
-pub(crate) fn apply_step<F: Field>(factors: &[F], t: usize, p: usize, column: &mut [F])
+pub fn apply_step<F: Field>(factors: &[F], t: usize, p: usize, column: &mut [F])
     requires sized { length factors.now ≡ length column.old }
     requires within { (t < length column.old) × (p < length column.old) }
     ensures { at F.ops F.member column.new ≡ after_step F.ops (at F.ops F.member factors.now) t p (at F.ops F.member column.old) }
@@ -29,7 +29,7 @@ fn factors_of<F: Field>(rows: usize, steps: &[F], t: usize) -> &[F]
 }
 
 // Brings a column up to date by the first steps. No `zip` with the chunks of the factors, since chunks of no rows are refused.
-pub(crate) fn reduce<F: Field>(
+pub fn reduce<F: Field>(
     rows: usize,
     rank: usize,
     factors: &[F],
@@ -47,13 +47,13 @@ pub(crate) fn reduce<F: Field>(
 
 // A row in which a column has an entry that is not zero, and the inverse of the entry.
 #[derive(Clone, Copy)]
-pub(crate) struct Pivot<F: Field> {
+pub struct Pivot<F: Field> {
     pub row: usize,
     pub inverse: F,
 }
 
 // The first pivot of a column from a row on.
-pub(crate) fn find_pivot<F: Field>(column: &[F], rank: usize) -> Option<Pivot<F>>
+pub fn find_pivot<F: Field>(column: &[F], rank: usize) -> Option<Pivot<F>>
     ensures { MatchOption result ((k : ℕ) → rank ≤ k → at F.ops F.member column.now k ≡ F.ops.zero) (λ p. IsPivot F.ops (length column.now) rank (at F.ops F.member column.now) p.row (F.member p.inverse)) }
 {
     let mut entries = column.iter().enumerate().skip(rank);
@@ -61,7 +61,7 @@ pub(crate) fn find_pivot<F: Field>(column: &[F], rank: usize) -> Option<Pivot<F>
 }
 
 // Writes the numbers of the step of a reduced column and its pivot behind those of the first steps.
-pub(crate) fn record_step<F: Field>(
+pub fn record_step<F: Field>(
     rows: usize,
     rank: usize,
     factors: &mut [F],

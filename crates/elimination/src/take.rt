@@ -3,7 +3,7 @@ ghost use Rattle.std.specs.Prelude.{◌≡◌, ◌+◌, ◌*◌, ◌≤◌, leng
 ghost use Rattle.tables.specs.Places.{at, Kept};
 ghost use Rattle.elimination.specs.Echelon.{places_after};
 ghost use Rattle.elimination.specs.Steps.{column_at, entry_at, rank_after, AreSteps};
-ghost use Rattle.elimination.specs.Taken.{Took, TookNext};
+ghost use Rattle.elimination.specs.Taken.{SameTables, Took, TookNext};
 
 use crate::Steps;
 use crate::step::{find_pivot, record_step};
@@ -16,6 +16,7 @@ impl<'a, F: Field> Steps<'a, F> {
         requires { length column.old ≡ self.old.rows }
         ensures takes { Took self.old self.new (at F.ops F.member column.old) (at F.ops F.member column.new) result }
         ensures counted { (self.new.rows ≡ self.old.rows) × (self.new.rank ≡ rank_after self.old.rank result) }
+        ensures lent { SameTables self.old self.new }
     {
         self.bring(column);
         let Some(pivot) = find_pivot(column, self.rank) else {
@@ -32,6 +33,7 @@ impl<'a, F: Field> Steps<'a, F> {
         requires { self.old.rows * q + self.old.rows ≤ length matrix.old }
         ensures takes { Took self.old self.new (column_at F.ops F.member self.old.rows matrix.old q) (column_at F.ops F.member self.old.rows matrix.new q) result }
         ensures counted { (self.new.rows ≡ self.old.rows) × (self.new.rank ≡ rank_after self.old.rank result) }
+        ensures lent { SameTables self.old self.new }
         ensures others { Kept F.ops F.member (self.old.rows * q) self.old.rows matrix.old matrix.new }
     {
         let start = self.rows * q;
@@ -53,6 +55,7 @@ impl<'a, F: Field> Steps<'a, F> {
         ensures placed { places.new ≡ places_after self.old.rank q places.old result }
         ensures takes { TookNext q self.old self.new places.old (column_at F.ops F.member self.old.rows matrix.old column) (column_at F.ops F.member self.old.rows matrix.new column) result }
         ensures counted { (self.new.rows ≡ self.old.rows) × (self.new.rank ≡ rank_after self.old.rank result) }
+        ensures lent { SameTables self.old self.new }
         ensures others { Kept F.ops F.member (self.old.rows * column) self.old.rows matrix.old matrix.new }
     {
         let rank = self.rank;

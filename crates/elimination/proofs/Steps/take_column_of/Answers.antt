@@ -17,5 +17,6 @@ returns g c =
           (replaced_here f.ops f.member base s.rows c.args.matrix.now after.column c.requires long)
           c.take_column.ensures.takes;
       counted = c.take_column.ensures.counted;
+      lent = c.take_column.ensures.lent;
       others = kept_range f.ops f.member base (base + s.rows) s.rows c.args.matrix.now after.column (omega arith) (omega arith) c.take_column.auto.column;
     }
