@@ -16,9 +16,9 @@ use tables::sizes::{FRAME, GENERATORS};
 pub struct Desk<F: Field> {
     // What the tables, and those that a call is brought, are allocated from.
     pub(crate) heap: Global,
-    pub(crate) design: Option<Design>,
-    pub(crate) generators: Vec<F>,
-    pub(crate) frame: Vec<F>,
+    pub design: Option<Design>,
+    pub generators: Vec<F>,
+    pub frame: Vec<F>,
     ghost long: { length generators.items ≡ GENERATORS },
     // A design that is framed keeps its promise.
     ghost stands: { ∥ IfSome design (λ d. Stands F.ops F.member d generators.items frame.items) ∥₁ },

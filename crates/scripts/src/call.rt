@@ -132,7 +132,7 @@ impl Keyword {
     }
 
     // A line that begins with the keyword, by the names of what it takes.
-    pub(crate) fn form(self) -> &'static str {
+    pub fn form(self) -> &'static str {
         match self {
             Keyword::Field => "field tones|nibbles|bytes|tone-pairs",
             Keyword::Begin => "begin N",
