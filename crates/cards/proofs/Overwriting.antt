@@ -1,5 +1,5 @@
 -- Writing over: one byte, one piece after another, onto zeros. Assumes nothing.
-use Rattle.std.proofs.Common.{◌≡◌, ℕ, zero, suc, ◌+◌, ◌-◌, ◌<◌, ◌≤◌, List, [], ◌∷◌, ◌++◌, length, set, replicate, take, drop, sym, refl, ap, ◌∙◌, le_of_suc-le-suc, not-suc-le-zero, arith}
+use Rattle.std.proofs.Common.{◌≡◌, ℕ, zero, suc, ◌+◌, ◌-◌, ◌<◌, ◌≤◌, List, [], ◌∷◌, ◌++◌, length, set, replicate, sym, refl, ap, ◌∙◌, le_of_suc-le-suc, not-suc-le-zero, arith}
 use Rattle.cards.specs.Overwriting.{over}
 
 pub over_nil : (k : ℕ) (bs : List ℕ) → over k bs [] ≡ []
@@ -42,13 +42,13 @@ over_zeros (b ∷ bs) (suc n) h = ap (λ l. b ∷ l) (over_zeros bs n (le_of_suc
 set_next : (xs : List ℕ) (k j b : ℕ) (bs : List ℕ) → j ≡ k + length bs → set (over k bs xs) j b ≡ over k (bs ++ b ∷ []) xs
 set_next xs k j b bs e = set_over (over k bs xs) j b ∙ over_append k j bs (b ∷ []) xs e
 
--- what is put in the place of a piece is written over it
-pub put_over : (k : ℕ) (bs xs : List ℕ) → k + length bs ≤ length xs → take k xs ++ (bs ++ drop (length bs) (drop k xs)) ≡ over k bs xs
-put_over zero [] xs h = refl
-put_over zero (b ∷ bs) [] h = absurd (omega arith)
-put_over zero (b ∷ bs) (x ∷ xs) h = ap (λ l. b ∷ l) (put_over zero bs xs (omega arith))
-put_over (suc k) bs [] h = absurd (omega arith)
-put_over (suc k) bs (x ∷ xs) h = ap (λ l. x ∷ l) (put_over k bs xs (omega arith))
+-- four bytes put one behind the other
+pub record_over : (xs : List ℕ) (k p q r s : ℕ) → set (set (set (set xs k p) (k + 1) q) (k + 2) r) (k + 3) s ≡ over k (p ∷ q ∷ r ∷ s ∷ []) xs
+record_over xs k p q r s =
+    ap (λ l. set (set (set l (k + 1) q) (k + 2) r) (k + 3) s) (set_over xs k p)
+    ∙ ap (λ l. set (set l (k + 2) r) (k + 3) s) (set_next xs k (k + 1) q (p ∷ []) refl)
+    ∙ ap (λ l. set l (k + 3) s) (set_next xs k (k + 2) r (p ∷ q ∷ []) refl)
+    ∙ set_next xs k (k + 3) s (p ∷ q ∷ r ∷ []) refl
 
 pub record_start : (xs : List ℕ) (p q r : ℕ) → set (set (set xs 0 p) 1 q) 2 r ≡ over 0 (p ∷ q ∷ r ∷ []) xs
 record_start xs p q r =

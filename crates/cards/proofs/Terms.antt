@@ -1,7 +1,6 @@
 -- The terms of a row of elements, taken one element at a time. Assumes nothing.
-use Rattle.std.proofs.Common.{◌≡◌, ℕ, Bool, zero, suc, ◌+◌, ◌*◌, ◌/◌, ◌%◌, ◌<◌, ◌≤◌, List, [], ◌∷◌, map, length, count_by, cond, not, ◌==◌, get_or, drop, sym, refl, ap, ◌∙◌, add-one, arith, ne_eqb}
+use Rattle.std.proofs.Common.{◌≡◌, ℕ, zero, suc, ◌+◌, ◌*◌, ◌/◌, ◌%◌, ◌<◌, ◌≤◌, List, [], ◌∷◌, map, length, get_or, drop, sym, refl, ap, ◌∙◌, add-one, arith}
 use Rattle.std.proofs.lemmas.List.{drop_more, drop_all}
-use Rattle.std.proofs.lemmas.List.Recursion.{is_count_by}
 use Rattle.cards.specs.Cards.{Term, terms, link, records}
 use Rattle.cards.specs.Overwriting.{over}
 use Rattle.cards.proofs.Overwriting.{over_append}
@@ -21,21 +20,6 @@ pub length_terms : (k : ℕ) (cs : List ℕ) → length (terms k cs) ≤ length 
 length_terms k [] = omega arith
 length_terms k (zero ∷ cs) = let h = length_terms (suc k) cs in omega arith
 length_terms k (suc c ∷ cs) = let h = length_terms (suc k) cs in omega arith
-
-any_power : (k j : ℕ) (cs : List ℕ) → length (terms k cs) ≡ length (terms j cs)
-any_power k j [] = refl
-any_power k j (zero ∷ cs) = any_power (suc k) (suc j) cs
-any_power k j (suc c ∷ cs) = ap suc (any_power (suc k) (suc j) cs)
-
-one_more : (c : ℕ) (cs : List ℕ) → length (terms 0 (c ∷ cs)) ≡ cond (not (c == 0)) (1 + length (terms 0 cs)) (length (terms 0 cs))
-one_more zero cs = any_power 1 0 cs
-one_more (suc c) cs =
-    let more : suc (length (terms 1 cs)) ≡ 1 + length (terms 0 cs) = omega (arith, any_power 1 0 cs) in
-    more ∙ ap (λ (b : Bool). cond (not b) (1 + length (terms 0 cs)) (length (terms 0 cs))) (sym (ne_eqb (suc c) 0 (omega arith)))
-
--- a term for each code that is not zero
-pub count_nonzero : {F : Type 0} (code_of : F → ℕ) (xs : List F) → length (terms 0 (map code_of xs)) ≡ count_by (λ x. not (code_of x == 0)) xs
-count_nonzero code_of xs = is_count_by (λ ys. length (terms 0 (map code_of ys))) (λ x. not (code_of x == 0)) refl (λ x ys. one_more (code_of x) (map code_of ys)) xs
 
 module _ {F : Type 0} (code_of : F → ℕ) where
   -- the terms that stand from place i on

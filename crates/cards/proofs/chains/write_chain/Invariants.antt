@@ -8,12 +8,8 @@ use Rattle.cards.proofs.chains.write_chain.Given as goal
 abbrev pub invariant-loop-power : goal.invariant-loop-power
 invariant-loop-power g l =
     let f = g.F.Field in
-    let all = terms_from (code_of f.number f.member) 0 l.row in
-    let left = terms_from (code_of f.number f.member) l.power l.row in
-    record {
-      later : l.k + length left ≡ l.count;
-      few : l.k ≤ l.power;
-      counted : l.count ≡ length all;
-      room : l.place + 4 * l.count ≤ length l.buffer;
-      written : over (l.place + 4 * l.k) (records (l.first + l.k) left) l.buffer ≡ over l.place (records l.first all) l.initial.buffer;
-    }
+    (l.left ≡ length (terms_from (code_of f.number f.member) l.power l.row))
+    × (l.next ≤ l.first + l.power)
+    × (l.next + l.left ≡ l.first + length (terms_from (code_of f.number f.member) 0 l.row))
+    × (l.at + 4 * l.left ≤ length l.buffer)
+    × (over l.at (records l.next (terms_from (code_of f.number f.member) l.power l.row)) l.buffer ≡ over l.place (records l.first (terms_from (code_of f.number f.member) 0 l.row)) l.initial.buffer)
