@@ -2,10 +2,12 @@
 use fields::fault::FieldFault;
 use fields::field::Field;
 use random::Random;
+use std::test::Fail;
 use tones::Tone;
 use trial_support::blocks::{
     code_at, column, component, degree_of, differences, is_block, product_with, same_outside,
 };
+use trial_support::cards::card_of;
 use trial_support::codes::{top_of, write_members};
 use trial_support::draws::Draws;
 use trial_support::faults::Fault;
@@ -105,6 +107,39 @@ fn a_row_and_a_block(rt: HostRuntime) {
     check[1] = Tone::T1;
     check[17] = Tone::T30;
     assert!(rt; product_with(&row, &check) == [0; LENGTH]);
+}
+
+// A row of no polynomials has no streams, and of a row of nine the ninth is zero.
+#[test]
+fn rows_of_any_count(rt: HostRuntime) {
+    let none = Row::zeros(0);
+    assert_eq!(rt; none.n, 0);
+    assert_eq!(rt; none.polynomials().len(), 0);
+    assert!(rt; is_block(&none, &[Tone::T1], &[Tone::T1]));
+    let mut nine = Row::zeros(9);
+    nine.put(7, 0, 1);
+    assert_eq!(rt; nine.n, 9);
+    assert_eq!(rt; nine.polynomials().len(), 8);
+    let mut block = [Tone::T0; 9];
+    block[7] = Tone::T1;
+    assert!(rt; is_block(&nine, &[Tone::T1], &block));
+    block[8] = Tone::T1;
+    assert!(rt; !is_block(&nine, &[Tone::T1], &block));
+}
+
+// The card of (s^2, s + 1) over tones, byte for byte.
+#[test]
+fn a_card(rt: HostRuntime) -> Result<(), Fail> {
+    let mut row = Row::zeros(2);
+    row.put(0, 2, 1);
+    row.put(1, 0, 1);
+    row.put(1, 1, 1);
+    let bytes = [1u8, 2, 3, 1, 2, 2, 1, 0, 0, 0, 1, 0, 3, 1, 1, 0, 0];
+    let card = card_of::<Tone>(&row);
+    assert_eq!(rt; card.length, bytes.len());
+    let listed = card.to_vec(rt.alloc())?;
+    assert!(rt; listed.as_slice() == bytes.as_slice());
+    Ok(())
 }
 
 // A refused code has number 5 and no place.

@@ -16,25 +16,26 @@ pub fn code_at<F: Field>(symbols: &[F], place: usize) -> u16
     symbols.get(place).map_or(0, |x| x.code())
 }
 
-// The symbol at a place of the block of a message: that of stream i at time t.
-fn symbol<F: Field>(row: &Row, message: &[F], place: usize) -> u16 {
-    let time = place / row.n;
+// The symbol at a place of the block of a message: that of stream i at time t, zero in a stream past the eighth. Absent where the row has
+// no streams.
+fn symbol<F: Field>(row: &Row, message: &[F], place: usize) -> Option<u16> {
+    let time = place.checked_div(row.n)?;
     let mut sum = 0;
-    for (before, code) in (0..=time).rev().zip(&row.polynomials[place % row.n]) {
-        sum = sum_product(sum, member_of::<F>(*code), code_at(message, before));
+    if let Some(polynomial) = row.polynomials.get(place.checked_rem(row.n)?) {
+        for (before, code) in (0..=time).rev().zip(polynomial) {
+            sum = sum_product(sum, member_of::<F>(*code), code_at(message, before));
+        }
     }
-    sum
+    Some(sum)
 }
 
-// Whether a block is the block of a message. The clause says little: what it would say is the sum of products of coefficients, and
-// that is this program.
+// Whether a block is the block of a message; where the row has no streams, any is. The clause says little: what it would say is the sum of
+// products of coefficients, and that is this program.
 pub fn is_block<F: Field>(row: &Row, message: &[F], block: &[F]) -> bool
     ensures { block.now ≡ [] → IsTrue result }
 {
-    block
-        .iter()
-        .enumerate()
-        .all(|(place, x)| x.code() == symbol(row, message, place))
+    let mut symbols = block.iter().enumerate();
+    symbols.all(|(place, x)| symbol(row, message, place).is_none_or(|y| x.code() == y))
 }
 
 // The part with that number of a table cut into parts of one size; empty where there is no such part.

@@ -8,12 +8,12 @@ use fields::field::Field;
 
 // Lists with distinct degrees, each monic and at the place of its degree.
 #[derive(Clone, Copy)]
-pub(crate) struct Echelon {
+pub struct Echelon {
     lists: [Option<[u16; LENGTH]>; LENGTH],
 }
 
 impl Echelon {
-    pub(crate) fn empty() -> Echelon {
+    pub fn empty() -> Echelon {
         Echelon {
             lists: [None; LENGTH],
         }
@@ -33,7 +33,7 @@ impl Echelon {
     }
 
     // Takes a list in; one that is a combination of the others changes nothing.
-    pub(crate) fn insert<F: Field>(&mut self, list: [u16; LENGTH]) {
+    pub fn insert<F: Field>(&mut self, list: [u16; LENGTH]) {
         let mut rest = self.reduce::<F>(list);
         if let Some(top) = top_of(&rest) {
             let x = inverse::<F>(rest[top]);
@@ -43,12 +43,12 @@ impl Echelon {
     }
 
     // How many lists stand.
-    pub(crate) fn rank(&self) -> usize {
+    pub fn rank(&self) -> usize {
         self.lists.iter().filter(|list| list.is_some()).count()
     }
 
     // Whether a list is a combination of those taken in.
-    pub(crate) fn spans<F: Field>(&self, list: [u16; LENGTH]) -> bool {
+    pub fn spans<F: Field>(&self, list: [u16; LENGTH]) -> bool {
         top_of(&self.reduce::<F>(list)).is_none()
     }
 

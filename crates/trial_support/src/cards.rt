@@ -1,7 +1,9 @@
 // Cards by their layout: what a design's card holds byte for byte, and what any bytes mean as a card.
+ghost use Rattle.std.specs.Prelude.{◌≡◌, IfOk, take};
+
 use crate::faults::Fault;
 use crate::rows::Row;
-use crate::sizes::{GENERATORS, HEADER, POWERS, RECORD};
+use crate::sizes::{CARD, GENERATORS, HEADER, POWERS, RECORD};
 use fields::field::Field;
 use std::alloc::{AllocError, Global};
 
@@ -11,8 +13,37 @@ fn terms(list: &[u16]) -> u8 {
     u8::try_from(count).unwrap_or(u8::MAX)
 }
 
-// Appends the records of a polynomial, each with the number of the next, 0 at the last.
-fn push_chain(card: &mut Vec<u8>, polynomial: &[u16], first: u8) -> Result<(), AllocError> {
+// The bytes of a card, zeros after its length.
+#[derive(Clone, Copy)]
+pub struct Card {
+    pub bytes: [u8; CARD],
+    pub length: usize,
+}
+
+impl Card {
+    // The bytes up to the length.
+    pub fn to_vec(&self, heap: Global) -> Result<Vec<u8>, AllocError>
+        ensures bytes { IfOk result (λ v. v.items ≡ take self.now.length self.now.bytes) }
+    {
+        Vec::from_slice(heap, &self.bytes[..self.length.min(CARD)])
+    }
+
+    // Sets the byte at a place; what there is none of is passed over.
+    fn set(&mut self, place: usize, byte: u8) {
+        if let Some(kept) = self.bytes.get_mut(place) {
+            *kept = byte;
+        }
+    }
+
+    // Appends a byte.
+    fn push(&mut self, byte: u8) {
+        self.set(self.length, byte);
+        self.length = self.length.saturating_add(1);
+    }
+}
+
+// Appends the records of a polynomial, each with the number of the next, 0 at the last; the first of them has a number.
+fn push_chain(card: &mut Card, polynomial: &[u16], first: u8) {
     let mut next = first;
     let mut left = terms(polynomial);
     for (power, code) in (0u8..).zip(polynomial) {
@@ -20,27 +51,31 @@ fn push_chain(card: &mut Vec<u8>, polynomial: &[u16], first: u8) -> Result<(), A
             next = next.saturating_add(1);
             left = left.saturating_sub(1);
             let [low, high] = code.to_le_bytes();
-            card.extend_from_slice(&[power, low, high, if left == 0 { 0 } else { next }])?;
+            for byte in [power, low, high, if left == 0 { 0 } else { next }] {
+                card.push(byte);
+            }
         }
     }
-    Ok(())
 }
 
 // The card of a row: the kind, n, how many records there are; the number of each polynomial's first record, 0 where it is zero; the
 // records. No contract: it would be the layout once more, which the trials compare with the library's, byte for byte.
-pub fn card_of<F: Field>(heap: Global, row: &Row) -> Result<Vec<u8>, AllocError> {
-    let n = u8::try_from(row.n).unwrap_or(u8::MAX);
-    let mut card = vec![in heap; F::kind(), n, terms(row.polynomials.as_flattened())]?;
-    let mut records = Vec::new(heap);
+pub fn card_of<F: Field>(row: &Row) -> Card {
+    let mut card = Card {
+        bytes: [0; CARD],
+        length: row.n.saturating_add(HEADER),
+    };
+    card.set(0, F::kind());
+    card.set(1, u8::try_from(row.n).unwrap_or(u8::MAX));
+    card.set(2, terms(row.polynomials().as_flattened()));
     let mut first = 1u8;
-    for polynomial in row.polynomials() {
+    for (head, polynomial) in (HEADER..).zip(row.polynomials()) {
         let terms = terms(polynomial);
-        card.push(if terms == 0 { 0 } else { first })?;
-        push_chain(&mut records, polynomial, first)?;
+        card.set(head, if terms == 0 { 0 } else { first });
+        push_chain(&mut card, polynomial, first);
         first = first.saturating_add(terms);
     }
-    card.extend_from_slice(records.as_slice())?;
-    Ok(card)
+    card
 }
 
 // The byte at a place, 0 past the end: what lies there counts as zero, and the length is judged apart.

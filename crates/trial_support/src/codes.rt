@@ -21,7 +21,7 @@ pub fn write_members<F: Field>(table: &mut [F], codes: &[u16])
 }
 
 // a + b c
-pub(crate) fn sum_product<F: Field>(a: u16, b: F, c: u16) -> u16 {
+pub fn sum_product<F: Field>(a: u16, b: F, c: u16) -> u16 {
     if c == 0 {
         return a;
     }
@@ -29,7 +29,7 @@ pub(crate) fn sum_product<F: Field>(a: u16, b: F, c: u16) -> u16 {
 }
 
 // The inverse of the member of a code, zero for zero: it is only asked for leading codes, which are not zero.
-pub(crate) fn inverse<F: Field>(code: u16) -> F {
+pub fn inverse<F: Field>(code: u16) -> F {
     member_of::<F>(code).inverse().unwrap_or(F::zero())
 }
 

@@ -46,7 +46,7 @@ impl Draws {
     }
 
     // The code of any member but zero.
-    pub(crate) fn nonzero<F: Field>(&mut self) -> u16 {
+    pub fn nonzero<F: Field>(&mut self) -> u16 {
         let code = self.below(F::size() - 1);
         u16::try_from(code + 1).unwrap_or(1)
     }

@@ -7,12 +7,12 @@ use fields::field::Field;
 
 // The vectors past the row's generators are zero.
 #[derive(Clone, Copy)]
-pub(crate) struct Basis {
-    pub vectors: [Vector; GENERATORS],
+pub struct Basis {
+    pub(crate) vectors: [Vector; GENERATORS],
 }
 
 impl Basis {
-    pub(crate) fn begin(row: &Row) -> Basis {
+    pub fn begin(row: &Row) -> Basis {
         let mut vectors = [Vector::zero(); GENERATORS];
         for (i, (vector, polynomial)) in vectors
             .iter_mut()
@@ -59,7 +59,7 @@ impl Basis {
     }
 
     // Reduces until no leading place can be lowered. Each round lowers one, so 8 times the number of places suffice.
-    pub(crate) fn reduce_leading<F: Field>(&mut self) {
+    pub fn reduce_leading<F: Field>(&mut self) {
         for _ in 0..GENERATORS * PLACES {
             if !self.reduce_once::<F>() {
                 break;
@@ -81,7 +81,7 @@ impl Basis {
     }
 
     // By number, since the others of the array reduce each.
-    pub(crate) fn reduce_tails<F: Field>(&mut self) {
+    pub fn reduce_tails<F: Field>(&mut self) {
         for i in 0..GENERATORS {
             self.reduce_tail::<F>(i);
         }

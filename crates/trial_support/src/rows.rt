@@ -8,13 +8,12 @@ use crate::sizes::{GENERATORS, POWERS};
 use fields::field::Field;
 
 // A row of n polynomials, each by the codes of its coefficients; those from n on are zero. All have their place, with n beside them:
-// a `Vec` of n would bring the heap, and its refusal, to every row that is drawn or read.
+// a `Vec` of n would bring the heap, and its refusal, to every row that is drawn or read. n is any number, and of a row of more than 8
+// polynomials those past the eighth are zero and have no place.
 #[derive(Clone, Copy)]
 pub struct Row {
     pub n: usize,
     pub polynomials: [[u16; POWERS]; GENERATORS],
-    ghost some: { 1 ≤ n },
-    ghost few: { n ≤ GENERATORS },
 }
 
 #[derive(Clone, Copy, PartialEq, Eq)]
@@ -36,22 +35,20 @@ pub enum Shape {
 }
 
 impl Row {
-    // The row of n zeros, with n from 1 to 8.
+    // The row of n zeros.
     pub fn zeros(n: usize) -> Row
-        ensures count { 1 ≤ n → n ≤ GENERATORS → result.n ≡ n }
+        ensures count { result.n ≡ n }
         ensures zeros { result.polynomials ≡ replicate GENERATORS (replicate POWERS 0) }
     {
-        Row {
-            n: n.clamp(1, GENERATORS),
-            polynomials: [[0; POWERS]; GENERATORS],
-        }
+        let polynomials = [[0; POWERS]; GENERATORS];
+        Row { n, polynomials }
     }
 
-    // The n polynomials.
+    // The n polynomials, as far as they have a place.
     pub fn polynomials(&self) -> &[[u16; POWERS]]
         ensures { result.now ≡ take self.now.n self.now.polynomials }
     {
-        &self.polynomials[..self.n]
+        &self.polynomials[..self.n.min(GENERATORS)]
     }
 
     // Sets the coefficient of a power of polynomial i; what there is none of is passed over.
@@ -82,7 +79,7 @@ impl Row {
     }
 
     // The highest power with a coefficient that is not zero, absent if there is none.
-    pub(crate) fn degree(&self) -> Option<usize> {
+    pub fn degree(&self) -> Option<usize> {
         self.polynomials()
             .iter()
             .filter_map(|polynomial| top_of(polynomial))

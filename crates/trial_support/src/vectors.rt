@@ -7,12 +7,12 @@ use fields::field::Field;
 const WIDTH: usize = GENERATORS + 1;
 
 // The places: 17 powers of the vector, and above them 17 of the product.
-pub(crate) const PLACES: usize = 2 * POWERS * WIDTH;
+pub const PLACES: usize = 2 * POWERS * WIDTH;
 
 // Power k of component i stands at 9 k + i. The product is raised by 17 powers, so that it leads while it is not zero. One flat list,
 // since the order of the places is what reduces: the highest leads, and a multiple by a power of s is the list moved up.
 #[derive(Clone, Copy)]
-pub(crate) struct Vector {
+pub struct Vector {
     cells: [u16; PLACES],
 }
 
@@ -29,7 +29,7 @@ fn copy_component(part: &mut [u16], powers: &[u16], i: usize) {
 }
 
 impl Vector {
-    pub(crate) fn zero() -> Vector {
+    pub fn zero() -> Vector {
         Vector { cells: [0; PLACES] }
     }
 
@@ -48,12 +48,12 @@ impl Vector {
     }
 
     // The leading place, the highest that is not zero; absent for the zero vector.
-    pub(crate) fn leading(&self) -> Option<usize> {
+    pub fn leading(&self) -> Option<usize> {
         top_of(&self.cells)
     }
 
     // The code at a place; what lies past the end counts as zero.
-    pub(crate) fn at(&self, place: usize) -> u16 {
+    pub fn at(&self, place: usize) -> u16 {
         self.cells.get(place).copied().unwrap_or(0)
     }
 
@@ -64,7 +64,7 @@ impl Vector {
     }
 
     // Makes the coefficient at a place zero by a multiple of another vector, whose leading place comes to lie there.
-    pub(crate) fn cancel<F: Field>(&mut self, place: usize, other: &Vector) {
+    pub fn cancel<F: Field>(&mut self, place: usize, other: &Vector) {
         let Some(leading) = other.leading() else {
             return;
         };
@@ -76,7 +76,7 @@ impl Vector {
     }
 
     // Makes the leading coefficient 1, where there is one.
-    pub(crate) fn make_monic<F: Field>(&mut self) {
+    pub fn make_monic<F: Field>(&mut self) {
         if let Some(leading) = self.leading() {
             let x = inverse::<F>(self.at(leading));
             scale(&mut self.cells, x);

@@ -96,8 +96,9 @@ impl<F: Field + Drop> Sending<'_, F> {
     // Whether the block with the symbol at a place changed is told unclean, or, where the stream of the symbol is the only one that is not
     // zero, is the block of another message; and spoils few symbols, all from its time on.
     fn hit_agrees(&mut self, place: usize) -> bool {
-        let time = place / self.row.n;
-        let alone = self.row.is_alone(place % self.row.n);
+        let time = place.checked_div(self.row.n).unwrap_or(0);
+        let stream = place.checked_rem(self.row.n);
+        let alone = stream.is_some_and(|i| self.row.is_alone(i));
         let [reach, ..] = self.framed.columns().to_le_bytes();
         let reach = usize::from(reach);
         if !self.invert() {

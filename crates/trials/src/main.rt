@@ -129,7 +129,7 @@ impl<F: Field + Clone + Drop> Trials<F> {
 
     // Writes the card of a row, and reads it whole and damaged.
     fn try_keeping(&mut self, row: &Row) -> Result<(), AllocError> {
-        let card = card_of::<F>(self.heap, row)?;
+        let card = card_of::<F>(row).to_vec(self.heap)?;
         let entered = self.tables.enter(row);
         let written = entered.is_ok_and(|draft| {
             writing_agrees(&draft, self.tables.generators.as_slice(), card.as_slice())

@@ -30,7 +30,11 @@ impl<F: Field + Drop> Tables<F> {
     // Enters a row, with ones in the polynomials past it.
     pub fn enter(&mut self, row: &Row) -> Result<Draft, DesignFault> {
         let draft = enter(row, self.generators.as_mut_slice())?;
-        if let Some(rest) = self.generators.as_mut_slice().get_mut(row.n * POWERS..) {
+        if let Some(rest) = self
+            .generators
+            .as_mut_slice()
+            .get_mut(row.n.saturating_mul(POWERS)..)
+        {
             mark(rest);
         }
         Ok(draft)
