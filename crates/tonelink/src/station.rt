@@ -4,17 +4,19 @@ use anyhow::anyhow;
 use design::draft::Draft;
 use history::perform::perform;
 use history::request::{Answer, Design, Request};
+use std::alloc::Global;
 use std::fmt;
 use tables::sizes::{FRAME, GENERATORS};
 use tones::Tone;
 
-// A design with the tables that it lends.
+// A design with the tables that it lends. The frame lies on the heap: a station moves through every call, and so long an array would
+// be copied on the stack each time.
 // `rt` is no field: a lifetime would stand on each `Station` and `Answered`, and no line would be saved.
 #[derive(Drop)]
 pub struct Station {
     pub design: Design,
     pub generators: [Tone; GENERATORS],
-    pub frame: [Tone; FRAME],
+    pub frame: Vec<Tone>,
 }
 
 // A station after a list of requests, with the answer to each.
@@ -26,7 +28,7 @@ pub struct Answered {
 
 impl Station {
     // A new design of 2 generators.
-    pub(crate) fn begin() -> anyhow::Result<Station> {
+    pub(crate) fn begin(heap: Global) -> anyhow::Result<Station> {
         let mut generators = [Tone::T0; GENERATORS];
         let Ok(draft) = Draft::begin(2, &mut generators) else {
             return Err(anyhow!("begin was refused"));
@@ -34,7 +36,7 @@ impl Station {
         Ok(Station {
             design: Design::Draft(draft),
             generators,
-            frame: [Tone::T0; FRAME],
+            frame: vec![in heap; Tone::T0; FRAME]?,
         })
     }
 

@@ -173,7 +173,7 @@ fn offer(rt: &HostRuntime, station: Station) -> anyhow::Result<()> {
 // A design whose generators have a common factor: the link turns it away.
 fn factor(rt: &HostRuntime) -> anyhow::Result<()> {
     println!(rt; "Another design is entered, whose generators have a common factor:")?;
-    let station = enter(rt, Station::begin()?, &SHARED)?;
+    let station = enter(rt, Station::begin(rt.alloc())?, &SHARED)?;
     let divisor = DivisorText {
         generators: &station.generators,
     };
@@ -187,7 +187,7 @@ fn factor(rt: &HostRuntime) -> anyhow::Result<()> {
 // The design (s^2, 1 + s): entered, with two slips, and kept on a card.
 fn first_design(rt: &HostRuntime) -> anyhow::Result<Station> {
     println!(rt; "A new design of 2 generators over the 31 tones is begun.")?;
-    let station = Station::begin()?;
+    let station = Station::begin(rt.alloc())?;
     println!(rt; "Its generators s^2 and 1 + s are entered by their codes:")?;
     let station = enter(rt, station, &DESIGN)?;
     println!(rt; "Two slips of the hand are refused, and change nothing:")?;
