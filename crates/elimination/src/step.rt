@@ -29,13 +29,7 @@ fn factors_of<F: Field>(rows: usize, steps: &[F], t: usize) -> &[F]
 }
 
 // Brings a column up to date by the first steps. No `zip` with the chunks of the factors, since chunks of no rows are refused.
-pub fn reduce<F: Field>(
-    rows: usize,
-    rank: usize,
-    factors: &[F],
-    pivots: &[usize],
-    column: &mut [F],
-)
+pub fn reduce<F: Field>(rows: usize, rank: usize, factors: &[F], pivots: &[usize], column: &mut [F])
     requires room { (rows * rank ≤ length factors.now) × ((rank ≤ length pivots.now) × (length column.old ≡ rows)) }
     requires valid { AreSteps F.ops rows rank (column_at F.ops F.member rows factors.now) (entry_at pivots.now) }
     ensures { at F.ops F.member column.new ≡ reduced F.ops (column_at F.ops F.member rows factors.now) (entry_at pivots.now) rank (at F.ops F.member column.old) }
