@@ -27,7 +27,7 @@ pub fn write_record(buffer: &mut [u8], at: usize, item: Record)
     requires { at + RECORD ≤ length buffer.old }
     ensures { buffer.new ≡ over at (item.power ∷ item.code % 256 ∷ item.code / 256 ∷ unwrap_or item.next 0 ∷ []) buffer.old }
 {
-    // Byte by byte: to copy a slice of four bytes takes half as long again, for the longest card.
+    // Byte by byte: with a slice of four bytes copied, the longest card needs half as many instructions again.
     let [power, low, high, next] = item.to_bytes();
     buffer[at] = power;
     buffer[at + 1] = low;

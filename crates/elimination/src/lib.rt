@@ -28,7 +28,8 @@ impl<'a, F: Field> Steps<'a, F> {
     pub fn new(rows: usize, factors: &'a mut [F], pivots: &'a mut [usize]) -> Steps<'a, F>
         requires { (rows * rows ≤ length factors.old) × (rows ≤ length pivots.old) }
         ensures none { (result.rows ≡ rows) × (result.rank ≡ 0) }
-        ensures lent { (result.factors.ghost_name ≡ factors.entry.ghost_name) × (result.pivots.ghost_name ≡ pivots.entry.ghost_name) }
+        ensures factors { result.factors.ghost_name ≡ factors.entry.ghost_name }
+        ensures pivots { result.pivots.ghost_name ≡ pivots.entry.ghost_name }
     {
         Steps {
             rows,

@@ -84,7 +84,7 @@ pub fn row_degree<F: Field>(n: usize, row: &[F]) -> usize
     ensures value { Highest F.ops n (row_in F.ops F.member row.now 0) result }
     ensures bound { result ≤ HIGHEST }
 {
-    // By the index: a chain over chunks takes twice the time where most coefficients are zero.
+    // By the index: over tones a chain over chunks needs twice the instructions where most coefficients are zero.
     let mut highest = 0;
     for i in 0..n {
         highest = highest.max(degree(&row[WIDTH * i..WIDTH * i + WIDTH]).unwrap_or(0));
